@@ -1,0 +1,126 @@
+-- A sheet that no question refuses, question by question: of the questions headed Machine and of those headed Rules.
+use mathlib.Core.Path.{_≡_, refl, subst}
+use Prim.Native.Nat.{ℕ, zero, suc, _≤_}
+use native.Mathlib.Omega.{arith}
+use mathlib.Core.List.{List, [], _∷_, _++_}
+use mathlib.Core.Bool.{Bool, true, false, not}
+use lib.Dec.{T}
+use Rattle.sheets.specs.Questions.{none as noRefusal, Question, ask, firstNo}
+use Rattle.sheets.specs.Machine.{machineRefusal, machineQuestions, q1, q2, q3, q4, q5, q6}
+use Rattle.sheets.specs.Rules.{Form, ruleRefusal, ruleQuestions, q7, q8, q9, q10, q11, q12, q13, q14, q15}
+
+-- every question is answered yes (a question's number is not 0)
+abbrev pub AllYes : List Question → Type 0
+AllYes [] = Unit {0}
+AllYes (ask zero i true ∷ qs) = AllYes qs
+AllYes (ask zero i false ∷ qs) = Unit {0}
+AllYes (ask (suc k) i b ∷ qs) = T b × AllYes qs
+
+pub none-refuses : (qs : List Question) → AllYes qs → firstNo qs .number ≡ 0
+unfolding firstNo
+none-refuses [] h = refl
+none-refuses (ask zero i true ∷ qs) h = none-refuses qs h
+none-refuses (ask zero i false ∷ qs) h = refl
+none-refuses (ask (suc k) i true ∷ qs) h = none-refuses qs (h .1)
+none-refuses (ask (suc k) i false ∷ qs) h = absurd (h .0)
+
+pub all-yes : (qs : List Question) → firstNo qs .number ≡ 0 → AllYes qs
+unfolding firstNo
+all-yes [] e = tt
+all-yes (ask zero i true ∷ qs) e = all-yes qs e
+all-yes (ask zero i false ∷ qs) e = tt
+all-yes (ask (suc k) i true ∷ qs) e = (tt, all-yes qs e)
+all-yes (ask (suc k) i false ∷ qs) e = absurd (omega arith)
+
+-- ---- what the first "no" finds, question by question
+
+pub data Finds : List Question → ℕ → Type 0 where
+  none : Finds [] 0
+  yes : {k i n : ℕ} {b : Bool} {qs : List Question} → b ≡ true → Finds qs n → Finds (ask k i b ∷ qs) n
+  no : {k i : ℕ} {b : Bool} {qs : List Question} → b ≡ false → Finds (ask k i b ∷ qs) k
+
+pub found : (qs : List Question) {n : ℕ} → Finds qs n → firstNo qs .number ≡ n
+unfolding firstNo noRefusal
+found qs none = refl
+found qs (yes {k = k} {i = i} {qs = rs} e f) = rw (e, firstNo) (found rs f)
+found qs (no {k = k} {i = i} {qs = rs} e) = rw (e, firstNo) refl
+
+-- ---- one table after another: a question's number is not 0, so that the number 0 says that no question refuses
+
+abbrev pub Numbered : List Question → Type 0
+Numbered [] = Unit {0}
+Numbered (ask k i b ∷ qs) = (1 ≤ k) × Numbered qs
+
+pub first-table : (qs rs : List Question) → (firstNo qs .number ≡ 0 → ⊥) → firstNo (qs ++ rs) ≡ firstNo qs
+unfolding firstNo noRefusal
+first-table [] rs n = absurd (n refl)
+first-table (ask k i true ∷ qs) rs n = first-table qs rs n
+first-table (ask k i false ∷ qs) rs n = refl
+
+pub later-table : (qs rs : List Question) → Numbered qs → firstNo qs .number ≡ 0 → firstNo (qs ++ rs) ≡ firstNo rs
+unfolding firstNo noRefusal
+later-table [] rs h e = refl
+later-table (ask k i true ∷ qs) rs h e = later-table qs rs (h .1) e
+later-table (ask k i false ∷ qs) rs h e = absurd (omega (arith, h .0))
+
+-- ---- a machine sheet
+
+pub record MachineAnswers (M : List ℕ) : Type 0 where
+  pub one : T (q1 M)
+  pub two : T (q2 M)
+  pub three : T (q3 M)
+  pub four : T (q4 M)
+  pub five : T (q5 M)
+  pub six : T (q6 M)
+
+pub machine-accepted : (M : List ℕ) → MachineAnswers M → machineRefusal M ≡ 0
+unfolding machineRefusal
+machine-accepted M a = none-refuses (machineQuestions 1 M) (a .one, (a .two, (a .three, (a .four, (a .five, (a .six, tt))))))
+
+pub machine-answers : (M : List ℕ) → machineRefusal M ≡ 0 → MachineAnswers M
+unfolding machineRefusal
+machine-answers M e =
+    let h = all-yes (machineQuestions 1 M) e in
+    record {
+      one = h .0;
+      two = h .1 .0;
+      three = h .1 .1 .0;
+      four = h .1 .1 .1 .0;
+      five = h .1 .1 .1 .1 .0;
+      six = h .1 .1 .1 .1 .1 .0;
+    }
+
+-- ---- a rule sheet
+
+pub record RuleAnswers (F : Form) (R : List ℕ) : Type 0 where
+  pub seven : T (q7 F R)
+  pub eight : T (q8 F R)
+  pub nine : T (q9 F R)
+  pub ten : T (q10 F R)
+  pub eleven : T (q11 F R)
+  pub twelve : T (q12 F R)
+  pub thirteen : T (q13 F R)
+  pub fourteen : T (q14 F R)
+  pub fifteen : T (q15 F R)
+
+pub rule-accepted : (F : Form) (R : List ℕ) → RuleAnswers F R → ruleRefusal F R ≡ 0
+unfolding ruleRefusal
+rule-accepted F R a =
+    none-refuses (ruleQuestions F R)
+    (a .seven, (a .eight, (a .nine, (a .ten, (a .eleven, (a .twelve, (a .thirteen, (a .fourteen, (a .fifteen, tt)))))))))
+
+pub rule-answers : (F : Form) (R : List ℕ) → ruleRefusal F R ≡ 0 → RuleAnswers F R
+unfolding ruleRefusal
+rule-answers F R e =
+    let h = all-yes (ruleQuestions F R) e in
+    record {
+      seven = h .0;
+      eight = h .1 .0;
+      nine = h .1 .1 .0;
+      ten = h .1 .1 .1 .0;
+      eleven = h .1 .1 .1 .1 .0;
+      twelve = h .1 .1 .1 .1 .1 .0;
+      thirteen = h .1 .1 .1 .1 .1 .1 .0;
+      fourteen = h .1 .1 .1 .1 .1 .1 .1 .0;
+      fifteen = h .1 .1 .1 .1 .1 .1 .1 .1 .0;
+    }

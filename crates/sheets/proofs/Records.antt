@@ -1,0 +1,66 @@
+-- A chain read record by record: what a step tells of its record, and of the chain that goes on there.
+use mathlib.Core.Path.{_≡_, refl}
+use Prim.Native.Nat.{ℕ, zero, suc, _+_, _-_, _*_, _≤_, _<_}
+use native.Mathlib.Omega.{arith}
+use mathlib.Core.List.{List, [], _∷_}
+use Rattle.sheets.specs.Words.{word, chain}
+use Rattle.sheets.specs.Records.{recordWord, stepAt}
+use Rattle.sheets.specs.declared.words.Step.{Step}
+use Rattle.sheets.specs.declared.words.Step.the-variants.{Record, End}
+
+module _ (read : ℕ → ℕ → ℕ) (w : ℕ) where
+  pub step-end : (x : ℕ) → x ≡ 0 → stepAt read w x ≡ End
+  unfolding stepAt
+  step-end zero e = refl
+  step-end (suc x) e = absurd (omega arith)
+
+  pub step-record : (x : ℕ) → (x ≡ 0 → ⊥) → stepAt read w x ≡ Record x (read x 0) (read x 1) (read x (w - 1))
+  unfolding stepAt
+  step-record zero n = absurd (n refl)
+  step-record (suc x) n = refl
+
+  -- what a record that was handed out says
+  pub record Handed (x n a b y : ℕ) : Type 0 where
+    pub there : 1 ≤ x
+    pub number : n ≡ x
+    pub first : a ≡ read x 0
+    pub second : b ≡ read x 1
+    pub link : y ≡ read x (w - 1)
+
+  pub handed : (x n a b y : ℕ) → stepAt read w x ≡ Record n a b y → Handed x n a b y
+  unfolding stepAt
+  handed zero n a b y e = let z : _≡_ {A = ℕ} 0 1 = cc in absurd (omega arith)
+  handed (suc x) n a b y e = record { there = omega arith; number = cc; first = cc; second = cc; link = cc }
+
+  -- the chain from a record on, of which f records may still be read
+  abbrev pub rest : ℕ → ℕ → List ℕ
+  rest f x = chain f (λ x. read x (w - 1)) x
+
+  pub rest-spent : (f x : ℕ) → f ≤ 0 → rest f x ≡ []
+  unfolding chain
+  rest-spent zero x h = refl
+  rest-spent (suc f) x h = absurd (omega arith)
+
+  pub rest-ended : (f x : ℕ) → stepAt read w x ≡ End → rest f x ≡ []
+  unfolding chain stepAt
+  rest-ended zero x e = refl
+  rest-ended (suc f) zero e = refl
+  rest-ended (suc f) (suc x) e = let z : _≡_ {A = ℕ} 0 1 = cc in absurd (omega arith)
+
+  pub rest-goes : (f x n a b y : ℕ) → 0 < f → stepAt read w x ≡ Record n a b y → rest f x ≡ n ∷ rest (f - 1) y
+  unfolding chain stepAt
+  rest-goes zero x n a b y h e = absurd (omega arith)
+  rest-goes (suc f) zero n a b y h e = let z : _≡_ {A = ℕ} 0 1 = cc in absurd (omega arith)
+  rest-goes (suc f) (suc x) n a b y h e =
+      let d : suc f - 1 ≡ f = omega arith in
+      let k : suc x ≡ n = cc in
+      let l : read (suc x) (w - 1) ≡ y = cc in
+      rw (d, l, k)
+
+-- a record from its words
+pub read-record : (ws : List ℕ) (base w x m l a b y : ℕ) → (x ≡ 0 → ⊥) → m ≡ x - 1 → l ≡ w - 1 → a ≡ word ws (base + w * m)
+    → b ≡ word ws (base + w * m + 1) → y ≡ word ws (base + w * m + l) → Record x a b y ≡ stepAt (recordWord ws base w) w x
+unfolding recordWord
+read-record ws base w x m l a b y n em el ea eb ey =
+    let z : base + w * m + 0 ≡ base + w * m = omega arith in
+    rw (step-record (recordWord ws base w) w x n, ← em, ← el, z, ea, eb, ey)

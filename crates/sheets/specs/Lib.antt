@@ -1,0 +1,10 @@
+-- The definitions of sheets: what a reader must believe.
+pub mod Words
+pub mod Questions
+pub mod Structures
+pub mod Machine
+pub mod Rules
+pub mod Cycles
+pub mod Records
+pub mod Answers
+pub mod Worked

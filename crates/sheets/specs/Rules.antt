@@ -1,0 +1,264 @@
+-- The rule sheet: automata (document 002, definitions 1 and 2) and lines, and the questions headed Rules.
+-- Every definition takes the sheet's form: its upper limits and the words of a line record. A sheet that is lent has the form
+-- `lent`; a rule of the logic, of whatever length and automaton size, has a form `lifted L`, with no upper limit.
+use Prim.Native.Nat.{ℕ, zero, suc, _+_, _-_, _*_, _^_}
+use mathlib.Core.List.{List, [], _∷_, map}
+use mathlib.Core.Bool.{Bool, true, false, not, _&&_, _||_}
+use lib.ListN.{length}
+use lib.Dec.{leb, ltb, eqb}
+use Rattle.sheets.specs.Structures.{Automaton, Line, signal, negation, either, somePath, somePathNot, malformed}
+use Rattle.sheets.specs.Words.{word, bit, within, each, allOf, anyOf, member, howMany, chain, link}
+use Rattle.sheets.specs.Questions.{Question, ask, firstNo}
+
+pub data Limit : Type 0 where
+  unlimited : Limit
+  most : ℕ → Limit
+
+unfoldable pub fits : Limit → ℕ → Bool
+fits unlimited x = true
+fits (most n) x = leb x n
+
+pub record Form : Type 0 where
+  pub automata : Limit
+  pub states : Limit
+  pub transitions : Limit
+  pub lines : Limit
+  pub variables : Limit
+  pub chained : Limit
+  pub lineWords : ℕ
+
+-- the form of a sheet that is lent: `chained` limits the states of one automaton
+unfoldable pub lent : Form
+lent = record { automata = most 16; states = most 256; transitions = most 1024; lines = most 1024; variables = most 4; chained = most 16; lineWords = 6 }
+
+-- a rule of the logic: no upper limit, and line records of L words
+unfoldable pub lifted : ℕ → Form
+lifted L = record { automata = unlimited; states = unlimited; transitions = unlimited; lines = unlimited; variables = unlimited; chained = unlimited; lineWords = L }
+
+-- the header: k, m, e and l; the e records of a rule sheet are called transitions here, for a machine sheet has edges too
+unfoldable pub automata : List ℕ → ℕ
+unfolding word
+automata R = word R 0
+
+unfoldable pub states : List ℕ → ℕ
+unfolding word
+states R = word R 1
+
+unfoldable pub transitions : List ℕ → ℕ
+unfolding word
+transitions R = word R 2
+
+unfoldable pub lines : List ℕ → ℕ
+unfolding word
+lines R = word R 3
+
+-- word k of an automaton's, a state's, a transition's and a line's record; records count from 1
+unfoldable pub automatonWord : List ℕ → ℕ → ℕ → ℕ
+unfolding word
+automatonWord R x k = word R (4 + 2 * (x - 1) + k)
+
+unfoldable pub stateWord : List ℕ → ℕ → ℕ → ℕ
+unfolding word automata
+stateWord R q k = word R (4 + 2 * automata R + 3 * (q - 1) + k)
+
+unfoldable pub transitionWord : List ℕ → ℕ → ℕ → ℕ
+unfolding word automata states
+transitionWord R y k = word R (4 + 2 * automata R + 3 * states R + 3 * (y - 1) + k)
+
+unfoldable pub lineWord : Form → List ℕ → ℕ → ℕ → ℕ
+unfolding word automata states transitions
+lineWord F R j k = word R (4 + 2 * automata R + 3 * states R + 3 * transitions R + F .lineWords * (j - 1) + k)
+
+-- an automaton: its variables, its initial state, the states on its chain
+unfoldable pub variables : List ℕ → ℕ → ℕ
+unfolding automatonWord
+variables R x = automatonWord R x 0
+
+unfoldable pub initial : List ℕ → ℕ → ℕ
+unfolding automatonWord
+initial R x = automatonWord R x 1
+
+unfoldable pub statesOf : List ℕ → ℕ → List ℕ
+unfolding chain states stateWord initial
+statesOf R x = chain (states R) (λ q. stateWord R q 2) (initial R x)
+
+unfoldable pub accepting : List ℕ → ℕ → Bool
+unfolding stateWord
+accepting R q = eqb (stateWord R q 0) 1
+
+-- the transitions out of a state (document 01's edges of a rule sheet), and a transition's target and mask
+unfoldable pub transitionsOf : List ℕ → ℕ → List ℕ
+unfolding chain transitions transitionWord stateWord
+transitionsOf R q = chain (transitions R) (λ y. transitionWord R y 2) (stateWord R q 1)
+
+unfoldable pub transitionTarget : List ℕ → ℕ → ℕ
+unfolding transitionWord
+transitionTarget R y = transitionWord R y 0
+
+unfoldable pub mask : List ℕ → ℕ → ℕ
+unfolding transitionWord
+mask R y = transitionWord R y 1
+
+-- the automaton of record x: at a valuation it takes the transition whose mask has it
+unfoldable pub automaton : List ℕ → ℕ → Automaton
+unfolding variables initial accepting anyOf transitionsOf mask bit transitionTarget
+automaton R x = record {
+  variables = variables R x;
+  initial = initial R x;
+  accepting = accepting R;
+  goes = λ q w q′. anyOf (transitionsOf R q) (λ y. bit (mask R y) w && eqb (transitionTarget R y) q′);
+}
+
+-- line j, taken apart by its operation
+unfoldable pub lineOf : Form → List ℕ → ℕ → ℕ → Line
+unfolding lineWord
+lineOf F R j zero = signal (lineWord F R j 1)
+lineOf F R j (suc zero) = negation (lineWord F R j 1)
+lineOf F R j (suc (suc zero)) = either (lineWord F R j 1) (lineWord F R j 2)
+lineOf F R j (suc (suc (suc zero))) = somePath (lineWord F R j 1) (λ i. lineWord F R j (2 + i))
+lineOf F R j (suc (suc (suc (suc zero)))) = somePathNot (lineWord F R j 1) (λ i. lineWord F R j (2 + i))
+lineOf F R j (suc (suc (suc (suc (suc n))))) = malformed
+
+unfoldable pub line : Form → List ℕ → ℕ → Line
+unfolding lineOf lineWord
+line F R j = lineOf F R j (lineWord F R j 0)
+
+-- ---- condition 1, as a test that is computed (`Cycles` has it in the reader's terms)
+
+-- a transition with a nonzero mask leads from p to q
+unfoldable pub leads : List ℕ → ℕ → ℕ → Bool
+unfolding anyOf transitionsOf mask transitionTarget
+leads R p q = anyOf (transitionsOf R p) (λ y. not (eqb (mask R y) 0) && eqb (transitionTarget R y) q)
+
+-- the elements that pass
+unfoldable pub keep : Bool → ℕ → List ℕ → List ℕ
+keep true q qs = q ∷ qs
+keep false q qs = qs
+
+unfoldable pub passing : (ℕ → Bool) → List ℕ → List ℕ
+unfolding keep
+passing p [] = []
+passing p (q ∷ qs) = keep (p q) q (passing p qs)
+
+-- the states among `all` that walks of 1 to f + 1 such edges reach from p
+unfoldable pub reached : List ℕ → List ℕ → ℕ → ℕ → List ℕ
+unfolding passing leads member anyOf
+reached R all p zero = passing (leads R p) all
+reached R all p (suc f) = passing (λ q. member q (reached R all p f) || anyOf (reached R all p f) (λ r. leads R r q)) all
+
+-- some walk of such edges leads from p to q: as many steps as there are states are enough
+unfoldable pub walks : List ℕ → List ℕ → ℕ → ℕ → Bool
+unfolding member reached
+walks R all p q = member q (reached R all p (length all))
+
+-- no cycle meets an accepting and a non-accepting state
+unfoldable pub unmixed : List ℕ → List ℕ → Bool
+unfolding allOf accepting walks
+unmixed R all = allOf all (λ p. allOf all (λ q. not (accepting R p && not (accepting R q) && walks R all p q && walks R all q p)))
+
+-- ---- the questions
+
+unfoldable pub distinct : List ℕ → Bool
+unfolding member
+distinct [] = true
+distinct (x ∷ xs) = not (member x xs) && distinct xs
+
+unfoldable pub q7 : Form → List ℕ → Bool
+unfolding fits automata states transitions lines
+q7 F R =
+    leb 4 (length R) && fits (F .automata) (automata R) && fits (F .states) (states R) && fits (F .transitions) (transitions R)
+    && leb 1 (lines R) && fits (F .lines) (lines R)
+
+unfoldable pub q8 : Form → List ℕ → Bool
+unfolding automata states transitions lines
+q8 F R = eqb (length R) (4 + 2 * automata R + 3 * states R + 3 * transitions R + F .lineWords * lines R)
+
+unfoldable pub q9 : Form → List ℕ → Bool
+unfolding each automata fits variables within states initial
+q9 F R = each (automata R) (λ x. fits (F .variables) (variables R x) && within 1 (states R) (initial R x))
+
+unfoldable pub q10 : Form → List ℕ → Bool
+unfolding each states stateWord within transitions link
+q10 F R =
+    each (states R) (λ q. leb (stateWord R q 0) 1 && within 1 (transitions R) (stateWord R q 1) && link (states R) q (stateWord R q 2))
+
+unfoldable pub q11 : Form → List ℕ → Bool
+unfolding each transitions within states transitionTarget link transitionWord
+q11 F R = each (transitions R) (λ y. within 1 (states R) (transitionTarget R y) && link (transitions R) y (transitionWord R y 2))
+
+-- of the transitions `ys` out of a state of the automaton with the states `all` and v variables
+unfoldable pub transitionsFit : List ℕ → ℕ → List ℕ → List ℕ → Bool
+unfolding allOf mask member transitionTarget distinct
+transitionsFit R v all ys = allOf ys (λ y. ltb (mask R y) (2 ^ (2 ^ v)) && member (transitionTarget R y) all) && distinct (map (transitionTarget R) ys)
+
+-- automaton x: few enough states, and transitions that fit out of each of them
+unfoldable pub automatonFits : Form → List ℕ → ℕ → Bool
+unfolding fits statesOf allOf transitionsFit variables transitionsOf
+automatonFits F R x =
+    fits (F .chained) (length (statesOf R x)) && allOf (statesOf R x) (λ q. transitionsFit R (variables R x) (statesOf R x) (transitionsOf R q))
+
+unfoldable pub q12 : Form → List ℕ → Bool
+unfolding each automata automatonFits
+q12 F R = each (automata R) (automatonFits F R)
+
+-- every valuation is in the mask of exactly one of the transitions
+unfoldable pub total : List ℕ → ℕ → List ℕ → Bool
+unfolding each howMany bit mask
+total R v ys = each (2 ^ v) (λ w. eqb (howMany ys (λ y. bit (mask R y) (w - 1))) 1)
+
+unfoldable pub automatonTotal : List ℕ → ℕ → Bool
+unfolding allOf statesOf total variables transitionsOf
+automatonTotal R x = allOf (statesOf R x) (λ q. total R (variables R x) (transitionsOf R q))
+
+unfoldable pub q13 : Form → List ℕ → Bool
+unfolding each automata automatonTotal
+q13 F R = each (automata R) (automatonTotal R)
+
+unfoldable pub q14 : Form → List ℕ → Bool
+unfolding each automata unmixed statesOf
+q14 F R = each (automata R) (λ x. unmixed R (statesOf R x))
+
+-- the words of line j from word c on are zero, and the record is long enough for those before it
+unfoldable pub unused : Form → List ℕ → ℕ → ℕ → Bool
+unfolding each lineWord
+unused F R j c = leb c (F .lineWords) && each (F .lineWords - c) (λ i. eqb (lineWord F R j (c + i - 1)) 0)
+
+-- words c + 1 to c + n of line j refer to lines above it
+unfoldable pub refersAbove : Form → List ℕ → ℕ → ℕ → ℕ → Bool
+unfolding each within lineWord
+refersAbove F R j c n = each n (λ i. within 1 (j - 1) (lineWord F R j (c + i)))
+
+-- the words after the operation of a path line: an automaton, a line above for each of its variables, then zeros
+unfoldable pub pathFits : Form → List ℕ → ℕ → Bool
+unfolding within lineWord unused refersAbove automata variables
+pathFits F R j =
+    within 1 (automata R) (lineWord F R j 1) && refersAbove F R j 1 (variables R (lineWord F R j 1)) && unused F R j (2 + variables R (lineWord F R j 1))
+
+unfoldable pub lineFits : Form → List ℕ → ℕ → ℕ → Bool
+unfolding within lineWord unused refersAbove pathFits
+lineFits F R j zero = within 1 16 (lineWord F R j 1) && unused F R j 2
+lineFits F R j (suc zero) = refersAbove F R j 0 1 && unused F R j 2
+lineFits F R j (suc (suc zero)) = refersAbove F R j 0 2 && unused F R j 3
+lineFits F R j (suc (suc (suc zero))) = pathFits F R j
+lineFits F R j (suc (suc (suc (suc zero)))) = pathFits F R j
+lineFits F R j (suc (suc (suc (suc (suc n))))) = false
+
+unfoldable pub q15 : Form → List ℕ → Bool
+unfolding each lines lineFits lineWord
+q15 F R = each (lines R) (λ j. lineFits F R j (lineWord F R j 0))
+
+unfoldable pub ruleQuestions : Form → List ℕ → List Question
+unfolding q7 q8 q9 q10 q11 q12 q13 q14 q15
+ruleQuestions F R =
+    ask 7 0 (q7 F R) ∷ ask 8 0 (q8 F R) ∷ ask 9 0 (q9 F R) ∷ ask 10 0 (q10 F R) ∷ ask 11 0 (q11 F R)
+    ∷ ask 12 0 (q12 F R) ∷ ask 13 0 (q13 F R) ∷ ask 14 0 (q14 F R) ∷ ask 15 0 (q15 F R) ∷ []
+
+-- the number of the question that refuses a rule sheet; 0, and the sheet is accepted, where none does
+unfoldable pub ruleRefusal : Form → List ℕ → ℕ
+unfolding firstNo ruleQuestions
+ruleRefusal F R = firstNo (ruleQuestions F R) .number
+
+-- question 16: the sheet's signal numbers are at most a
+unfoldable pub overSignals : Form → ℕ → List ℕ → Bool
+unfolding each lines lineWord
+overSignals F a R = each (lines R) (λ j. not (eqb (lineWord F R j 0) 0) || leb (lineWord F R j 1) a)
