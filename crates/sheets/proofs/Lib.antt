@@ -16,3 +16,4 @@ pub mod AcceptedRule
 pub mod FormedLines
 pub mod LentRule
 pub mod Walks
+pub mod WorkedSheets
