@@ -1,0 +1,10 @@
+use borrow.Author.Needs.{needs}
+use Rattle.truth.proofs.RowLaws.{held-not}
+use Rattle.truth.proofs.rows.Row.complement.Statement.{statement}
+use Rattle.truth.proofs.rows.Row.complement.Tie as tie
+
+returns : tie.Need-returns
+returns c s = held-not _ _ s (search needs) (search needs)
+
+pub complement-spec : {M : Type 1} → statement M
+complement-spec = tie.close (tie.spec returns)

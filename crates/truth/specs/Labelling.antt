@@ -1,0 +1,40 @@
+-- Labelling: the rows of a whole rule sheet, and what is answered.
+use mathlib.Core.Path.{_≡_}
+use mathlib.Core.Logic.{_↔_}
+use Prim.Native.Nat.{ℕ, _+_, _-_, _*_, _/_, _%_, _≤_, _<_}
+use mathlib.Core.List.{List, [], _∷_, _++_}
+use mathlib.Core.Bool.{Bool, true, false}
+use lib.ListN.{length}
+use lib.Count.{ones}
+use lib.Dec.{T, leb}
+use Rattle.sheets.specs.Words.{word, bit}
+use Rattle.sheets.specs.Questions.{Question, ask}
+use Rattle.sheets.specs.Machine.{machineQuestions, nodes, signals}
+use Rattle.sheets.specs.Rules.{Form, lent, ruleQuestions, overSignals, lines}
+use Rattle.truth.specs.Truth.{TrueAt}
+
+-- node s in the row of line j: two words of 64 bits a line
+unfoldable pub rowBit : List ℕ → ℕ → ℕ → Bool
+unfolding word bit
+rowBit rows j s = bit (word rows (2 * (j - 1) + (s - 1) / 64)) ((s - 1) % 64)
+
+-- the ones in the row of line j
+unfoldable pub rowOnes : List ℕ → ℕ → ℕ
+unfolding word ones
+rowOnes rows j = ones (word rows (2 * (j - 1))) + ones (word rows (2 * (j - 1) + 1))
+
+-- the whole percent of c among n, a half rounded up
+unfoldable pub percent : ℕ → ℕ → ℕ
+percent c n = (200 * c + n) / (2 * n)
+
+-- the questions that labelling asks, of a space of so many words
+unfoldable pub labelQuestions : List ℕ → List ℕ → ℕ → List Question
+unfolding machineQuestions ruleQuestions lent overSignals signals lines
+labelQuestions M R space = machineQuestions 1 M ++ (ruleQuestions lent R ++ (ask 16 0 (overSignals lent (signals M) R) ∷ ask 17 0 (leb (2 * lines R) space) ∷ []))
+
+-- `after` is `before` with the rows of R on M
+pub record Rows (M R before after : List ℕ) : Type 0 where
+  pub size : length after ≡ length before
+  pub truth : (j s : ℕ) → 1 ≤ j → j ≤ lines R → 1 ≤ s → s ≤ nodes M → T (rowBit after j s) ↔ TrueAt lent M R j s
+  pub clear : (j s : ℕ) → 1 ≤ j → j ≤ lines R → nodes M < s → s ≤ 128 → rowBit after j s ≡ false
+  pub rest : (i : ℕ) → 2 * lines R ≤ i → word after i ≡ word before i

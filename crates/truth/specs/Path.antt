@@ -1,0 +1,52 @@
+-- The path call: its questions, and what is handed over.
+use mathlib.Core.Path.{_≡_}
+use Prim.Native.Nat.{ℕ, zero, suc, _+_, _-_, _*_, _≤_, _<_}
+use mathlib.Core.List.{List, [], _∷_, _++_}
+use mathlib.Core.Bool.{Bool, not, _&&_}
+use lib.ListN.{length}
+use lib.Dec.{T, leb}
+use Rattle.sheets.specs.Words.{word, within}
+use Rattle.sheets.specs.Questions.{Question, ask}
+use Rattle.sheets.specs.Structures.{Kripke, Automaton, Line, signal, negation, either, somePath, somePathNot, malformed}
+use Rattle.sheets.specs.Machine.{machineQuestions, kripke, nodes, signals}
+use Rattle.sheets.specs.Rules.{lent, ruleQuestions, overSignals, lines, lineWord, line, automaton, statesOf}
+use Rattle.truth.specs.Truth.{Truths, TrueAt}
+use Rattle.truth.specs.Lists.{Lasso}
+
+-- line 0 means the last line
+unfoldable pub asked : List ℕ → ℕ → ℕ
+unfolding lines
+asked R zero = lines R
+asked R (suc j) = suc j
+
+unfoldable pub q18 : List ℕ → List ℕ → ℕ → ℕ → Bool
+unfolding asked within lines nodes lineWord lent
+q18 M R j s = within 1 (lines R) (asked R j) && within 1 (nodes M) s && within 3 4 (lineWord lent R (asked R j) 0)
+
+-- `room` is how many pairs the list has space for
+unfoldable pub q19 : List ℕ → List ℕ → ℕ → ℕ → Bool
+unfolding asked nodes statesOf lineWord lent
+q19 M R j room = leb (nodes M * length (statesOf R (lineWord lent R (asked R j) 1))) room
+
+unfoldable pub pathQuestions : List ℕ → List ℕ → ℕ → ℕ → ℕ → List Question
+unfolding machineQuestions ruleQuestions lent overSignals signals q18 q19
+pathQuestions M R j s room =
+    machineQuestions 1 M ++ (ruleQuestions lent R ++ (ask 16 0 (overSignals lent (signals M) R) ∷ ask 18 0 (q18 M R j s) ∷ ask 19 0 (q19 M R j room) ∷ []))
+
+-- of a path line; no other line has one
+unfoldable pub Shows : Kripke → (ℕ → Automaton) → Truths → Line → ℕ → (ℕ → ℕ) → (ℕ → ℕ) → ℕ → ℕ → Type 0
+Shows K A above (signal i) s node state len back = ⊥
+Shows K A above (negation i) s node state len back = ⊥
+Shows K A above (either i k) s node state len back = ⊥
+Shows K A above (somePath x arg) s node state len back = Lasso K (A x) above arg (A x .accepting) s node state len back
+Shows K A above (somePathNot x arg) s node state len back = Lasso K (A x) above arg (λ q. not (A x .accepting q)) s node state len back
+Shows K A above malformed s node state len back = ⊥
+
+-- `nodes′` and `states′` are the list's two parts after the call; places count from 1
+pub record Shown (M R : List ℕ) (j s : ℕ) (nodesBefore statesBefore nodesAfter statesAfter : List ℕ) (len back : ℕ) : Type 0 where
+  pub size-nodes : length nodesAfter ≡ length nodesBefore
+  pub size-states : length statesAfter ≡ length statesBefore
+  pub fits : len ≤ length nodesAfter
+  pub shows : Shows (kripke M) (automaton R) (TrueAt lent M R) (line lent R (asked R j)) s (λ i. word nodesAfter (i - 1)) (λ i. word statesAfter (i - 1)) len back
+  pub rest-nodes : (i : ℕ) → len ≤ i → word nodesAfter i ≡ word nodesBefore i
+  pub rest-states : (i : ℕ) → len ≤ i → word statesAfter i ≡ word statesBefore i

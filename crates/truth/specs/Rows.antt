@@ -1,0 +1,31 @@
+-- Rows: a set of nodes from 1 to 128 in two words of 64 bits, node s at bit s - 1 of both together.
+use Prim.Native.Nat.{ℕ, zero, suc, _+_, _-_}
+use mathlib.Core.Bool.{Bool, true, false, _&&_}
+use mathlib.Core.List.{List}
+use lib.Dec.{leb}
+use Rattle.sheets.specs.Words.{bit, within, indicator, anyOf}
+use Rattle.sheets.specs.Machine.{edgesOf, target}
+use Rattle.truth.specs.declared.rows.Row.{Row}
+
+unfoldable pub pick : Bool → Bool → Bool → Bool
+pick true a b = a
+pick false a b = b
+
+-- node s is in the set that two words hold
+unfoldable pub held : ℕ → ℕ → ℕ → Bool
+unfolding pick within bit
+held low high s = within 1 128 s && pick (leb s 64) (bit low (s - 1)) (bit high (s - 65))
+
+abbrev pub rowHas : Row → ℕ → Bool
+rowHas r s = held (r .low) (r .high) s
+
+-- how many of 1 to n pass
+unfoldable pub tally : ℕ → (ℕ → Bool) → ℕ
+unfolding indicator
+tally zero p = 0
+tally (suc n) p = tally n p + indicator (p (suc n))
+
+-- some edge of node s leads to a node that passes
+unfoldable pub leadsInto : List ℕ → (ℕ → Bool) → ℕ → Bool
+unfolding anyOf edgesOf target
+leadsInto M p s = anyOf (edgesOf M s) (λ x. p (target M x))
