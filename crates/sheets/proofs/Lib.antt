@@ -1,19 +1,27 @@
--- What holds of sheets: general lemmas first, then chains, accepted sheets, and question 14's walks.
+-- What holds of sheets: general lemmas first, then chains, the loops of the code, accepted sheets, question 14's walks, worked sheets.
 pub mod Tests
 pub mod Search
 pub mod Pigeonhole
 pub mod Counting
 pub mod Bits
 pub mod BitLaws
+pub mod Bounds
 pub mod Chains
 pub mod Records
-pub mod ChainLoops
+pub mod ChainTests
 pub mod EachLoops
+pub mod OffsetLoops
+pub mod AutomatonLoops
 pub mod Questions
+pub mod RuleTable
 pub mod Answers
 pub mod AcceptedMachine
 pub mod AcceptedRule
 pub mod FormedLines
+pub mod DecodedLines
+pub mod PathLines
 pub mod LentRule
 pub mod Walks
+pub mod Positions
+pub mod ReachedPositions
 pub mod WorkedSheets

@@ -2,7 +2,7 @@
 -- Every definition takes the sheet's form: its upper limits and the words of a line record. A sheet that is lent has the form
 -- `lent`; a rule of the logic, of whatever length and automaton size, has a form `lifted L`, with no upper limit.
 use Prim.Native.Nat.{ℕ, zero, suc, _+_, _-_, _*_, _^_}
-use mathlib.Core.List.{List, [], _∷_, map}
+use mathlib.Core.List.{List, [], _∷_, _++_, map}
 use mathlib.Core.Bool.{Bool, true, false, not, _&&_, _||_}
 use lib.ListN.{length}
 use lib.Dec.{leb, ltb, eqb}
@@ -247,11 +247,18 @@ unfoldable pub q15 : Form → List ℕ → Bool
 unfolding each lines lineFits lineWord
 q15 F R = each (lines R) (λ j. lineFits F R j (lineWord F R j 0))
 
+-- the questions headed Rules, in order: those of the records, those of the automata, and that of the lines
+unfoldable pub recordQuestions : Form → List ℕ → List Question
+unfolding q7 q8 q9 q10 q11
+recordQuestions F R = ask 7 0 (q7 F R) ∷ ask 8 0 (q8 F R) ∷ ask 9 0 (q9 F R) ∷ ask 10 0 (q10 F R) ∷ ask 11 0 (q11 F R) ∷ []
+
+unfoldable pub automataQuestions : Form → List ℕ → List Question
+unfolding q12 q13 q14
+automataQuestions F R = ask 12 0 (q12 F R) ∷ ask 13 0 (q13 F R) ∷ ask 14 0 (q14 F R) ∷ []
+
 unfoldable pub ruleQuestions : Form → List ℕ → List Question
-unfolding q7 q8 q9 q10 q11 q12 q13 q14 q15
-ruleQuestions F R =
-    ask 7 0 (q7 F R) ∷ ask 8 0 (q8 F R) ∷ ask 9 0 (q9 F R) ∷ ask 10 0 (q10 F R) ∷ ask 11 0 (q11 F R)
-    ∷ ask 12 0 (q12 F R) ∷ ask 13 0 (q13 F R) ∷ ask 14 0 (q14 F R) ∷ ask 15 0 (q15 F R) ∷ []
+unfolding recordQuestions automataQuestions q15
+ruleQuestions F R = recordQuestions F R ++ (automataQuestions F R ++ (ask 15 0 (q15 F R) ∷ []))
 
 -- the number of the question that refuses a rule sheet; 0, and the sheet is accepted, where none does
 unfoldable pub ruleRefusal : Form → List ℕ → ℕ

@@ -31,6 +31,17 @@ pub fn node_word(m: &[u16], s: u16, k: u16) -> u16
     words::word(m, 3 + 3 * words::monus(s as usize, 1) + k as usize)
 }
 
+// Signal i at node s.
+pub fn signal_at(m: &[u16], i: u16, s: u16) -> bool
+    ensures { λ b. ⌜ b ≡ Machine.signalAt (now (m .entry)) i s ⌝ }
+{
+    let w = node_word(m, s, 0);
+    if i == 0 {
+        return words::bit(w, 0);
+    }
+    words::bit(w, i - 1)
+}
+
 // Word k of edge record x.
 pub fn edge_word(m: &[u16], x: u16, k: u16) -> u16
     ensures { λ r. ⌜ r ≡ Machine.edgeWord (now (m .entry)) x k ⌝ }

@@ -1,6 +1,7 @@
-// The rule sheet: its header, its records.
+// The rule sheet: its header, its records, and questions 7 to 11.
 ghost use mathlib.Core.Path.{_≡_};
 ghost use Prim.Native.Nat.{ℕ, _+_, _-_, _*_, _^_, _<_, _≤_};
+ghost use Rattle.sheets.specs.Questions.{firstNo};
 ghost use Rattle.sheets.specs.Rules as Rules;
 ghost use Rattle.sheets.specs.Records.{stepAt};
 use crate::words;
@@ -93,4 +94,111 @@ pub fn transition(r: &[u16], y: u16) -> Step
     let a = automata(r);
     let m = states(r);
     words::chain_record(r, 4 + 2 * (a as u32) + 3 * (m as u32), 3, y)
+}
+
+pub fn q7(r: &[u16]) -> bool
+    ensures { λ b. ⌜ b ≡ Rules.q7 Rules.lent (now (r .entry)) ⌝ }
+{
+    if r.len() < 4 {
+        return false;
+    }
+    if automata(r) > 16 {
+        return false;
+    }
+    if states(r) > 256 {
+        return false;
+    }
+    if transitions(r) > 1024 {
+        return false;
+    }
+    words::within(1, 1024, lines(r))
+}
+
+pub fn q8(r: &[u16]) -> bool
+    ensures { λ b. ⌜ b ≡ Rules.q8 Rules.lent (now (r .entry)) ⌝ }
+{
+    let a = automata(r) as usize;
+    let m = states(r) as usize;
+    let e = transitions(r) as usize;
+    let l = lines(r) as usize;
+    r.len() == 4 + 2 * a + 3 * m + 3 * e + 6 * l
+}
+
+pub fn q9(r: &[u16]) -> bool
+    ensures { λ b. ⌜ b ≡ Rules.q9 Rules.lent (now (r .entry)) ⌝ }
+{
+    let a = automata(r);
+    let m = states(r);
+    let mut x: u16 = 0;
+    while x < a {
+        x += 1;
+        if automaton_word(r, x, 0) > 4 {
+            return false;
+        }
+        if !words::within(1, m, automaton_word(r, x, 1)) {
+            return false;
+        }
+    }
+    true
+}
+
+pub fn q10(r: &[u16]) -> bool
+    ensures { λ b. ⌜ b ≡ Rules.q10 Rules.lent (now (r .entry)) ⌝ }
+{
+    let m = states(r);
+    let e = transitions(r);
+    let mut q: u16 = 0;
+    while q < m {
+        q += 1;
+        if state_word(r, q, 0) > 1 {
+            return false;
+        }
+        if !words::within(1, e, state_word(r, q, 1)) {
+            return false;
+        }
+        if !words::link(m, q, state_word(r, q, 2)) {
+            return false;
+        }
+    }
+    true
+}
+
+pub fn q11(r: &[u16]) -> bool
+    ensures { λ b. ⌜ b ≡ Rules.q11 Rules.lent (now (r .entry)) ⌝ }
+{
+    let m = states(r);
+    let e = transitions(r);
+    let mut y: u16 = 0;
+    while y < e {
+        y += 1;
+        if !words::within(1, m, transition_word(r, y, 0)) {
+            return false;
+        }
+        if !words::link(e, y, transition_word(r, y, 2)) {
+            return false;
+        }
+    }
+    true
+}
+
+// The number of the question among 7 to 11 that refuses the sheet, 0 where none does.
+pub fn records_refusal(r: &[u16]) -> u16
+    ensures { λ q. ⌜ q ≡ firstNo (Rules.recordQuestions Rules.lent (now (r .entry))) .number ⌝ }
+{
+    if !q7(r) {
+        return 7;
+    }
+    if !q8(r) {
+        return 8;
+    }
+    if !q9(r) {
+        return 9;
+    }
+    if !q10(r) {
+        return 10;
+    }
+    if !q11(r) {
+        return 11;
+    }
+    0
 }

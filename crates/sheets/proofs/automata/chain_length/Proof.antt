@@ -1,7 +1,7 @@
 -- `chain_length` meets its contract. The invariant: the states counted, and those of the chain that is left, are all. The measure is the countdown.
 use borrow.Author.Needs.{needs}
 use mathlib.Core.Path.{_≡_, sym, _∙_}
-use Prim.Native.Nat.{ℕ, _+_, _≤_}
+use Prim.Native.Nat.{_+_, _≤_}
 use native.Mathlib.Omega.{arith}
 use lib.ListN.{length}
 use Rattle.sheets.specs.Rules.{statesOf, initial, stateWord}

@@ -1,0 +1,15 @@
+-- `within` of a number that the code compared with its bounds.
+use mathlib.Core.Path.{_≡_}
+use Prim.Native.Nat.{ℕ, _≤_}
+use mathlib.Core.Bool.{true, false}
+use lib.Dec.{not-T}
+use Rattle.sheets.specs.Words.{within}
+use Rattle.sheets.proofs.Tests.{passed, failed}
+use Rattle.sheets.proofs.Search.{within-at, within-in}
+
+module _ (lo hi x : ℕ) where
+  pub inside : lo ≤ x → x ≤ hi → within lo hi x ≡ true
+  inside l h = passed (within lo hi x) (within-in lo hi x l h)
+
+  pub outside : (lo ≤ x → x ≤ hi → ⊥) → within lo hi x ≡ false
+  outside n = failed (within lo hi x) (not-T (within lo hi x) (λ t. let h = within-at lo hi x t in n (h .0) (h .1)))

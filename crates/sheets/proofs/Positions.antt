@@ -1,0 +1,156 @@
+-- Positions, which count from 0: the elements of a list by their positions, and what a loop over positions has: a test that some
+-- position below n passes, a set of positions as the bits of a word, and a table of rows.
+use mathlib.Core.Path.{_≡_, refl, sym, _∙_}
+use mathlib.Core.Logic.{_⊎_, inl, inr, ⊎-elim}
+use Prim.Native.Nat.{ℕ, zero, suc, _+_, _-_, _≤_, _<_}
+use native.Mathlib.Numerals.{add-one}
+use native.Mathlib.Omega.{arith}
+use mathlib.Core.List.{List, [], _∷_}
+use mathlib.Core.Bool.{Bool, true, false, _&&_, _||_}
+use borrow.Author.Tests.{lt-ltb, le-ltb, eq-eqb, ne-eqb}
+use lib.ListN.{length, getD, set}
+use lib.Seq.{getD-set-same, getD-set-other}
+use lib.Dec.{T, ltb, eqb, eqb→eq, eqb-refl}
+use Rattle.sheets.specs.Words.{anyOf, member}
+use Rattle.sheets.specs.Positions.{someBelow}
+use Rattle.sheets.proofs.Tests.{or-left, or-right, or-cases, passed}
+use Rattle.sheets.proofs.Search.{le-or-gt}
+
+-- two tests that pass together are one
+pub same-tests : (a b : Bool) → (T a → T b) → (T b → T a) → a ≡ b
+same-tests true b f g = sym (passed b (f tt))
+same-tests false true f g = absurd (g tt)
+same-tests false false f g = refl
+
+or-no : (x : Bool) → (x || false) ≡ x
+or-no true = refl
+or-no false = refl
+
+and-no : (x : Bool) → (x && false) ≡ false
+and-no true = refl
+and-no false = refl
+
+and-yes : (x : Bool) → (x && true) ≡ x
+and-yes true = refl
+and-yes false = refl
+
+-- below i + 1 is below i, or i
+pub below-split : (i j : ℕ) → j < i + 1 → (j < i) ⊎ (j ≡ i)
+below-split i j h = ⊎-elim (λ le. inr (omega arith)) (λ lt. inl (omega arith)) (le-or-gt i j)
+
+-- ---- the elements of a list
+
+pub place-in : (xs : List ℕ) (i : ℕ) → i < length xs → T (member (getD xs i 0) xs)
+unfolding member anyOf
+place-in [] i h = absurd (omega arith)
+place-in (x ∷ xs) zero h = or-left (eqb x x) (member x xs) (eqb-refl x)
+place-in (x ∷ xs) (suc i) h = or-right (eqb (getD xs i 0) x) (member (getD xs i 0) xs) (place-in xs i (omega arith))
+
+pub place-of : (xs : List ℕ) (x : ℕ) → T (member x xs) → (i : ℕ) × (i < length xs) × (getD xs i 0 ≡ x)
+unfolding member anyOf
+place-of [] x t = absurd t
+place-of (y ∷ ys) x t =
+    ⊎-elim (λ u. (0, omega arith, sym (eqb→eq x y u))) (λ u. let r = place-of ys x u in (suc (r .0), omega arith, r .2))
+    (or-cases (eqb x y) (member x ys) t)
+
+-- what stands at position k of a list that begins with x
+pub first-place : {xs ys : List ℕ} {x k : ℕ} → xs ≡ x ∷ ys → k ≡ 0 → getD xs k 0 ≡ x
+first-place e z = rw (e, z)
+
+pub later-place : {xs ys : List ℕ} {x k : ℕ} → xs ≡ x ∷ ys → (k ≡ 0 → ⊥) → getD xs k 0 ≡ getD ys (k - 1) 0
+later-place {k = zero} e n = absurd (n refl)
+later-place {k = suc k} e n = let d : suc k - 1 ≡ k = omega arith in rw (e, d)
+
+-- ---- some position passes
+
+module _ (p : ℕ → Bool) where
+  pub some-none : someBelow 0 p ≡ false
+  unfolding someBelow
+  some-none = refl
+
+  pub some-more : (k : ℕ) → someBelow (k + 1) p ≡ (someBelow k p || p k)
+  unfolding someBelow
+  some-more k = rw (add-one k)
+
+  pub some-next : (k : ℕ) → someBelow k p ≡ false → p k ≡ false → someBelow (k + 1) p ≡ false
+  some-next k e t = some-more k ∙ rw (e, t)
+
+  pub some-at : (n : ℕ) → T (someBelow n p) → (i : ℕ) × (i < n) × T (p i)
+  unfolding someBelow
+  some-at zero t = absurd t
+  some-at (suc n) t =
+      ⊎-elim (λ u. let r = some-at n u in (r .0, omega arith, r .2)) (λ u. (n, omega arith, u)) (or-cases (someBelow n p) (p n) t)
+
+  pub some-in : (n i : ℕ) → i < n → T (p i) → T (someBelow n p)
+  unfolding someBelow
+  some-in zero i h t = absurd (omega arith)
+  some-in (suc n) i h t =
+      ⊎-elim (λ le. or-right (someBelow n p) (p n) (let e : i ≡ n = omega arith in rw e at t))
+      (λ lt. or-left (someBelow n p) (p n) (some-in n i (omega arith) t)) (le-or-gt n i)
+
+  pub some-met : (n i : ℕ) → i < n → p i ≡ true → someBelow n p ≡ true
+  some-met n i h e = passed (someBelow n p) (some-in n i h (rw e tt))
+
+pub some-same : (p q : ℕ → Bool) → ((i : ℕ) → p i ≡ q i) → (n : ℕ) → someBelow n p ≡ someBelow n q
+unfolding someBelow
+some-same p q h zero = refl
+some-same p q h (suc n) = rw (some-same p q h n, h n)
+
+-- ---- rows joined: x, and M j for each j below k of the set S; one position more
+
+or-more : (x y z : Bool) → ((x || y) || z) ≡ (x || (y || z))
+or-more true y z = refl
+or-more false y z = refl
+
+module _ (S M : ℕ → Bool) (x : Bool) where
+  abbrev pub joined : ℕ → Bool
+  joined k = x || someBelow k (λ j. S j && M j)
+
+  pub joined-none : x ≡ joined 0
+  joined-none = rw (some-none (λ j. S j && M j)) (sym (or-no x))
+
+  pub joined-yes : (k : ℕ) (h : Bool) → h ≡ joined k → S k ≡ true → (h || M k) ≡ joined (k + 1)
+  joined-yes k h e t = rw (some-more (λ j. S j && M j) k, t, e) (or-more x (someBelow k (λ j. S j && M j)) (M k))
+
+  pub joined-no : (k : ℕ) (h : Bool) → h ≡ joined k → S k ≡ false → h ≡ joined (k + 1)
+  joined-no k h e t = rw (some-more (λ j. S j && M j) k, t, or-no (someBelow k (λ j. S j && M j))) e
+
+-- ---- the positions below k that pass, as a set: one position more
+
+module _ (p : ℕ → Bool) (i : ℕ) where
+  -- the positions below k that pass
+  abbrev pub upTo : ℕ → Bool
+  upTo k = ltb i k && p i
+
+  pub upTo-none : upTo 0 ≡ false
+  upTo-none = rw (le-ltb i 0 (omega arith))
+
+  upTo-more : (k : ℕ) → upTo (k + 1) ≡ (upTo k || (p k && eqb i k))
+  upTo-more k = ⊎-elim (λ le. ⊎-elim past (λ lt. here (omega arith)) (le-or-gt (k + 1) i)) below (le-or-gt k i)
+    where
+      below : i < k → upTo (k + 1) ≡ (upTo k || (p k && eqb i k))
+      below l = rw (lt-ltb i k l, lt-ltb i (k + 1) (omega arith), ne-eqb i k (λ e. omega arith), and-no (p k)) (sym (or-no (p i)))
+
+      here : i ≡ k → upTo (k + 1) ≡ (upTo k || (p k && eqb i k))
+      here e = rw (e, lt-ltb k (k + 1) (omega arith), le-ltb k k (omega arith), eq-eqb k k refl) (sym (and-yes (p k)))
+
+      past : k + 1 ≤ i → upTo (k + 1) ≡ (upTo k || (p k && eqb i k))
+      past l = rw (le-ltb i k (omega arith), le-ltb i (k + 1) l, ne-eqb i k (λ e. omega arith)) (sym (and-no (p k)))
+
+  pub upTo-yes : (k : ℕ) (h : Bool) → h ≡ upTo k → p k ≡ true → (h || eqb i k) ≡ upTo (k + 1)
+  upTo-yes k h e t = rw (upTo-more k, t, e)
+
+  pub upTo-no : (k : ℕ) (h : Bool) → h ≡ upTo k → p k ≡ false → h ≡ upTo (k + 1)
+  upTo-no k h e t = rw (upTo-more k, t, or-no (upTo k)) e
+
+-- ---- a table: what each row below k has, after one store more
+
+pub stored : (P : ℕ → ℕ → Type 0) (xs : List ℕ) (k v : ℕ) → k < length xs → ((j : ℕ) → j < k → P j (getD xs j 0)) → P k v
+    → (j : ℕ) → j < k + 1 → P j (getD (set xs k v) j 0)
+stored P xs k v h below here j l = ⊎-elim old new (below-split k j l)
+  where
+    old : j < k → P j (getD (set xs k v) j 0)
+    old lt = rw (getD-set-other xs k j v 0 (λ e. omega arith)) (below j lt)
+
+    new : j ≡ k → P j (getD (set xs k v) j 0)
+    new e = rw (e, getD-set-same xs k v 0 h) here

@@ -1,0 +1,82 @@
+-- `leads_rows` meets its contract. The invariant: the rows below j have the positions to which a transition leads from there.
+-- The measure is what is left of n.
+use mathlib.Core.Path.{_≡_}
+use Prim.Native.Nat.{ℕ, _-_, _≤_, _<_}
+use native.Mathlib.Omega.{arith}
+use mathlib.Core.List.{List}
+use mathlib.Core.Bool.{_&&_}
+use lib.ListN.{length, getD, length-set}
+use lib.Dec.{ltb}
+use Rattle.sheets.specs.Words.{bit}
+use Rattle.sheets.specs.Rules.{statesOf, leads}
+use Rattle.sheets.proofs.Positions.{stored}
+use borrow.Author.Needs.{needs}
+use Rattle.sheets.proofs.condition.leads_rows.Statement.{statement}
+use Rattle.sheets.proofs.condition.leads_rows.Tie as tie
+
+-- v is the row of state p
+abbrev Row : List ℕ → ℕ → ℕ → ℕ → ℕ → Type 0
+Row r x n p v = (i : ℕ) → bit v i ≡ (ltb i n && leads r p (getD (statesOf r x) i 0))
+
+abbrev Inv-loop : tie.InvT-loop
+Inv-loop r x n rows₀ j₀ rows j = (j ≤ n) × (length rows ≡ 16) × ((k : ℕ) → k < j → Row r x n (getD (statesOf r x) k 0) (getD rows k 0))
+
+abbrev μ-loop : tie.MeasureT-loop
+μ-loop r x n rows₀ j₀ rows j = n - j
+
+loop-holds : tie.Need-loop-holds Inv-loop μ-loop
+loop-holds c = (omega arith, search needs, λ k l. absurd (omega arith))
+
+state-at-requires : tie.Need-state-at-requires Inv-loop μ-loop
+state-at-requires c κs = search needs
+
+leads-row-requires : tie.Need-leads-row-requires Inv-loop μ-loop
+leads-row-requires c κs = search needs
+
+cast-rows : tie.Need-cast-rows Inv-loop μ-loop
+cast-rows c = search needs
+
+mul-rows : tie.Need-mul-rows Inv-loop μ-loop
+mul-rows c = search needs
+
+array-write-rows : tie.Need-array-write-rows Inv-loop μ-loop
+array-write-rows c = search needs
+
+add-j : tie.Need-add-j Inv-loop μ-loop
+add-j c = search needs
+
+loop-less : tie.Need-loop-less Inv-loop μ-loop
+loop-less c = search needs
+
+loop-again : tie.Need-loop-again Inv-loop μ-loop
+loop-again c =
+    let a = c .before .before .before .before .before .args in
+    let at = c .before .before .before .loop in
+    let s = statesOf (a .r .now) (a .x) in (
+      omega arith,
+      simp length-set (at .inv .1),
+      stored (λ k v. Row (a .r .now) (a .x) (a .n) (getD s k 0) v) (at .rows) (at .j) (c .leads-row .result) (omega arith) (at .inv .2)
+          (rw (c .before .state-at .ensures) at (c .leads-row .ensures)),
+    )
+
+returns : tie.Need-returns Inv-loop μ-loop
+returns c =
+    let e : c .before .loop .j ≡ c .before .before .before .args .n = omega arith in
+    λ j i l. c .before .loop .inv .2 j (omega arith) i
+
+pub leads-rows-spec : {M : Type 1} → statement M
+leads-rows-spec =
+    tie.close
+    (tie.spec
+    Inv-loop
+    μ-loop
+    loop-holds
+    state-at-requires
+    leads-row-requires
+    cast-rows
+    mul-rows
+    array-write-rows
+    add-j
+    loop-less
+    loop-again
+    returns)

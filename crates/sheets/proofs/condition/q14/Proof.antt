@@ -1,0 +1,74 @@
+-- `q14` meets its contract. The invariant: automata 1 to x are unmixed. The measure is what is left of their number.
+use mathlib.Core.Path.{_≡_, sym, _∙_}
+use Prim.Native.Nat.{ℕ, _+_, _-_, _≤_}
+use native.Mathlib.Omega.{arith}
+use mathlib.Core.List.{List}
+use mathlib.Core.Bool.{Bool, true}
+use borrow.Author.Tests.{not-true, not-false}
+use Rattle.sheets.specs.Words.{each}
+use Rattle.sheets.specs.Rules.{automata, statesOf, unmixed, q14}
+use Rattle.sheets.proofs.EachLoops.{each-none, each-next, each-broken}
+use Rattle.sheets.proofs.ReachedPositions.{few-states}
+use borrow.Author.Needs.{needs}
+use Rattle.sheets.proofs.condition.q14.Statement.{statement}
+use Rattle.sheets.proofs.condition.q14.Tie as tie
+
+abbrev test : List ℕ → ℕ → Bool
+test r x = unmixed r (statesOf r x)
+
+abbrev Inv-loop : tie.InvT-loop
+Inv-loop r k x₀ x = (x ≤ k) × (each x (test r) ≡ true)
+
+abbrev μ-loop : tie.MeasureT-loop
+μ-loop r k x₀ x = k - x
+
+automata-requires : tie.Need-automata-requires Inv-loop μ-loop
+automata-requires c κs = search needs
+
+loop-holds : tie.Need-loop-holds Inv-loop μ-loop
+loop-holds c = (omega arith, each-none _)
+
+add-x : tie.Need-add-x Inv-loop μ-loop
+add-x c = search needs
+
+unmixed-requires : tie.Need-unmixed-requires Inv-loop μ-loop
+unmixed-requires c κs =
+    let start = c .before .before .before .before in
+    few-states (start .args .r .now) (c .before .loop .x + 1) (start .pre) (omega arith) (omega (arith, c .before .before .automata .ensures))
+
+returns : tie.Need-returns Inv-loop μ-loop
+unfolding q14
+returns c =
+    let r = c .before .before .before .before .before .before .args .r .now in
+    let u = sym (c .before .unmixed .ensures) ∙ not-true (c .before .unmixed .result) (c .if1 .taken) in
+    sym (each-broken (test r) (automata r) (c .before .before .before .loop .x + 1) (omega arith) (omega (arith, c .before .before .before .before .automata .ensures)) u)
+
+loop-less : tie.Need-loop-less Inv-loop μ-loop
+loop-less c = search needs
+
+loop-again : tie.Need-loop-again Inv-loop μ-loop
+loop-again c =
+    let r = c .before .before .before .before .before .before .args .r .now in
+    let u = sym (c .before .unmixed .ensures) ∙ not-false (c .before .unmixed .result) (c .if1 .left) in
+    (omega arith, each-next (test r) (c .before .before .before .loop .x) (c .before .before .before .loop .inv .1) u)
+
+returns-2 : tie.Need-returns-2 Inv-loop μ-loop
+unfolding q14
+returns-2 c =
+    let e : c .before .loop .x ≡ automata (c .before .before .before .before .args .r .now) = omega (arith, c .before .before .automata .ensures) in
+    sym (rw e at (c .before .loop .inv .1))
+
+pub q14-spec : {M : Type 1} → statement M
+q14-spec =
+    tie.close
+    (tie.spec
+    Inv-loop
+    μ-loop
+    automata-requires
+    loop-holds
+    add-x
+    unmixed-requires
+    returns
+    loop-less
+    loop-again
+    returns-2)

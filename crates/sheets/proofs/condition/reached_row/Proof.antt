@@ -1,0 +1,60 @@
+-- `reached_row` meets its contract. The invariant: the set so far has what k rounds reach from p. The measure is what is left of n.
+use mathlib.Core.Path.{_≡_, sym, _∙_}
+use Prim.Native.Nat.{ℕ, _-_, _≤_}
+use native.Mathlib.Omega.{arith}
+use Rattle.sheets.specs.Words.{bit}
+use Rattle.sheets.specs.Positions.{inRow, reachedAt}
+use Rattle.sheets.proofs.ReachedPositions.{reach-first, reach-round}
+use borrow.Author.Needs.{needs}
+use Rattle.sheets.proofs.condition.reached_row.Statement.{statement}
+use Rattle.sheets.proofs.condition.reached_row.Tie as tie
+
+abbrev Inv-loop : tie.InvT-loop
+Inv-loop n p rows out₀ k₀ out k = (k ≤ n) × ((i : ℕ) → bit out i ≡ reachedAt (inRow rows) n p k i)
+
+abbrev μ-loop : tie.MeasureT-loop
+μ-loop n p rows out₀ k₀ out k = n - k
+
+mul-out : tie.Need-mul-out Inv-loop μ-loop
+mul-out c = search needs
+
+array-read-out : tie.Need-array-read-out Inv-loop μ-loop
+array-read-out c = search needs
+
+loop-holds : tie.Need-loop-holds Inv-loop μ-loop
+loop-holds c = (omega arith, λ i. sym (reach-first (inRow (c .args .t1)) (c .args .n) (c .args .p) i))
+
+spread-requires : tie.Need-spread-requires Inv-loop μ-loop
+spread-requires c κs = search needs
+
+add-k : tie.Need-add-k Inv-loop μ-loop
+add-k c = search needs
+
+loop-less : tie.Need-loop-less Inv-loop μ-loop
+loop-less c = search needs
+
+loop-again : tie.Need-loop-again Inv-loop μ-loop
+loop-again c =
+    let a = c .before .before .before .args in
+    let at = c .before .before .loop in
+    (omega arith, λ i. c .spread .ensures i ∙ reach-round (inRow (a .t1)) (a .n) (a .p) (at .k) (bit (at .out)) (at .inv .1) i)
+
+returns : tie.Need-returns Inv-loop μ-loop
+returns c =
+    let e : c .before .loop .k ≡ c .before .before .args .n = omega arith in
+    λ i. c .before .loop .inv .1 i ∙ rw e
+
+pub reached-row-spec : {M : Type 1} → statement M
+reached-row-spec =
+    tie.close
+    (tie.spec
+    Inv-loop
+    μ-loop
+    mul-out
+    array-read-out
+    loop-holds
+    spread-requires
+    add-k
+    loop-less
+    loop-again
+    returns)

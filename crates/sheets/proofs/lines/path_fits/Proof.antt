@@ -1,0 +1,66 @@
+-- `path_fits` meets its contract: the tests of question 15 of a path line, in order; with more than 4 variables the record is too short.
+use mathlib.Core.Path.{sym, _∙_}
+use borrow.Author.Tests.{not-true, not-false}
+use Rattle.sheets.proofs.PathLines.{no-automaton, too-many, no-lines, as-rest}
+use borrow.Author.Needs.{needs}
+use Rattle.sheets.proofs.lines.path_fits.Statement.{statement}
+use Rattle.sheets.proofs.lines.path_fits.Tie as tie
+
+line-word-requires : tie.Need-line-word-requires
+line-word-requires c κs = search needs
+
+automata-requires : tie.Need-automata-requires
+automata-requires c κs = search needs
+
+within-requires : tie.Need-within-requires
+within-requires c κs = search needs
+
+returns : tie.Need-returns
+returns c =
+    let a = c .before .before .before .before .before .args in
+    no-automaton (a .r .now) (a .j) _ (c .before .before .before .line-word .ensures) (rw (c .before .before .automata .ensures) at (sym (c .before .within .ensures) ∙ not-true _ (c .if1 .taken)))
+
+automaton-word-requires : tie.Need-automaton-word-requires
+automaton-word-requires c κs = search needs
+
+returns-2 : tie.Need-returns-2
+returns-2 c =
+    let a = c .before .before .before .before .before .before .before .args in
+    too-many (a .r .now) (a .j) _ (c .before .before .before .before .before .line-word .ensures) _ (c .before .automaton-word .ensures) (c .if2 .taken)
+
+refers-above-requires : tie.Need-refers-above-requires
+refers-above-requires c κs = search needs
+
+add-unused : tie.Need-add-unused
+add-unused c = search needs
+
+unused-requires : tie.Need-unused-requires
+unused-requires c κs = search needs
+
+returns-3 : tie.Need-returns-3
+returns-3 c =
+    let a = c .before .before .before .before .before .before .before .before .before .before .args in
+    let w = rw (c .before .before .before .before .before .before .before .automata .ensures) at (sym (c .before .before .before .before .before .before .within .ensures) ∙ not-false _ (c .before .before .before .before .before .if1 .left)) in
+    c .unused .ensures ∙ as-rest (a .r .now) (a .j) _ (c .before .before .before .before .before .before .before .before .line-word .ensures) _ (c .before .before .before .before .automaton-word .ensures) w (sym (c .before .before .refers-above .ensures) ∙ c .before .if3 .taken)
+
+returns-4 : tie.Need-returns-4
+returns-4 c =
+    let a = c .before .before .before .before .before .before .before .before .before .args in
+    let w = rw (c .before .before .before .before .before .before .automata .ensures) at (sym (c .before .before .before .before .before .within .ensures) ∙ not-false _ (c .before .before .before .before .if1 .left)) in
+    c .if3 .left ∙ no-lines (a .r .now) (a .j) _ (c .before .before .before .before .before .before .before .line-word .ensures) _ (c .before .before .before .automaton-word .ensures) w (sym (c .before .refers-above .ensures) ∙ c .if3 .left)
+
+pub path-fits-spec : {M : Type 1} → statement M
+path-fits-spec =
+    tie.close
+    (tie.spec
+    line-word-requires
+    automata-requires
+    within-requires
+    returns
+    automaton-word-requires
+    returns-2
+    refers-above-requires
+    add-unused
+    unused-requires
+    returns-3
+    returns-4)
