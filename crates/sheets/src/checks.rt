@@ -54,12 +54,12 @@ pub fn check_machine(m: &[u16]) -> Check
 pub fn check_rules(r: &[u16]) -> Check
     ensures { λ a. ⌜ Answered (Rules.ruleQuestions Rules.lent (now (r .entry))) a ⌝ }
 {
-    let q = rule_refusal(r);
-    if q == 0 {
+    let question = rule_refusal(r);
+    if question == 0 {
         return Check::Accepted;
     }
     Check::Refused {
-        question: q,
+        question: question,
         sheet: 0,
     }
 }
