@@ -5,14 +5,14 @@ use Prim.Native.Nat.{ℕ, _^_, _≤_}
 use native.Mathlib.Omega.{arith}
 use mathlib.Core.List.{List, map}
 use mathlib.Core.Bool.{Bool, not, _&&_}
-use lib.ListN.{length}
+use lib.ListN.{length, getD}
 use lib.Dec.{T, not-T, leb, leb→le, ltb, eqb, eqb→eq}
 use Rattle.sheets.specs.Words.{bit, allOf, member}
 use Rattle.sheets.specs.Rules.{Form, states, automata, variables, initial, statesOf, transitions, transitionsOf, transitionTarget, mask, stateWord, automaton, leads, transitionsFit, distinct, fits, unmixed, lines, lineWord, lineFits, ruleRefusal, q7, q9, q10, automatonFits, q12, q14, q15}
 use Rattle.sheets.proofs.Tests.{and-left, and-right, and-both}
 use Rattle.sheets.proofs.Search.{within-at, each-at, any-at, any-in, all-at}
 use Rattle.sheets.proofs.Bits.{no-bit}
-use Rattle.sheets.proofs.Chains.{link-most, chain-first, chain-in}
+use Rattle.sheets.proofs.Chains.{link-most, chain-first, chain-head, chain-in}
 use Rattle.sheets.proofs.Questions.{RuleAnswers, rule-answers}
 
 module _ (F : Form) (R : List ℕ) (accepted : ruleRefusal F R ≡ 0) where
@@ -49,6 +49,11 @@ module _ (F : Form) (R : List ℕ) (accepted : ruleRefusal F R ≡ 0) where
     pub initial-on : T (member (initial R x) (statesOf R x))
     unfolding statesOf
     initial-on = let h = initial-in in chain-first (states R) (λ q. stateWord R q 2) (initial R x) (omega arith) (h .0)
+
+    -- which is the first on its chain
+    pub first-state : getD (statesOf R x) 0 0 ≡ initial R x
+    unfolding statesOf
+    first-state = let h = initial-in in chain-head (states R) (λ q. stateWord R q 2) (initial R x) (omega arith) (h .0)
 
     -- it stays on them, along edges with nonzero masks
     edge-fits : (q y : ℕ) → T (member q (statesOf R x)) → T (member y (transitionsOf R q)) → T (member (transitionTarget R y) (statesOf R x))

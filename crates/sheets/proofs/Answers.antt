@@ -38,3 +38,13 @@ module _ (i : ℕ) (qs : List Question) (of : Of i qs) (q : ℕ) (e : q ≡ firs
     refusal = λ k. record { number = e k; sheet = sym (first-of i qs of (λ z. n (e ∙ z))) k };
     accepted = λ z. absurd (n (e ∙ z));
   }
+
+-- the number that an answer carries
+module _ (qs : List Question) (r : Check) (a : Answered qs r) where
+  pub accepted-number : r ≡ Accepted → 0 ≡ firstNo qs .number
+  unfolding refusalOf none
+  accepted-number e = ap (λ (f : Refusal). f .number) (sym (ap refusalOf e) ∙ a .refusal)
+
+  pub refused-number : (q i : ℕ) → r ≡ Refused q i → q ≡ firstNo qs .number
+  unfolding refusalOf
+  refused-number q i e = ap (λ (f : Refusal). f .number) (sym (ap refusalOf e) ∙ a .refusal)

@@ -1,7 +1,9 @@
 -- Rows: a set of nodes from 1 to 128 in two words of 64 bits, node s at bit s - 1 of both together.
-use Prim.Native.Nat.{ℕ, zero, suc, _+_, _-_}
+use mathlib.Core.Path.{_≡_}
+use Prim.Native.Nat.{ℕ, zero, suc, _+_, _-_, _*_}
 use mathlib.Core.Bool.{Bool, true, false, _&&_}
 use mathlib.Core.List.{List}
+use lib.ListN.{getD}
 use lib.Dec.{leb}
 use Rattle.sheets.specs.Words.{bit, within, indicator, anyOf}
 use Rattle.sheets.specs.Machine.{edgesOf, target}
@@ -19,6 +21,10 @@ held low high s = within 1 128 s && pick (leb s 64) (bit low (s - 1)) (bit high 
 abbrev pub rowHas : Row → ℕ → Bool
 rowHas r s = held (r .low) (r .high) s
 
+-- node s in row p of a table: two words a row, rows from 0
+abbrev pub rowsHas : List ℕ → ℕ → ℕ → Bool
+rowsHas ys p s = held (getD ys (2 * p) 0) (getD ys (2 * p + 1) 0) s
+
 -- how many of 1 to n pass
 unfoldable pub tally : ℕ → (ℕ → Bool) → ℕ
 unfolding indicator
@@ -29,3 +35,8 @@ tally (suc n) p = tally n p + indicator (p (suc n))
 unfoldable pub leadsInto : List ℕ → (ℕ → Bool) → ℕ → Bool
 unfolding anyOf edgesOf target
 leadsInto M p s = anyOf (edgesOf M s) (λ x. p (target M x))
+
+-- r is a number that passes, or 0 where none does
+pub record First (p : ℕ → Bool) (r : ℕ) : Type 0 where
+  pub found : (r ≡ 0 → ⊥) → p r ≡ true
+  pub none : r ≡ 0 → (s : ℕ) → p s ≡ false

@@ -4,7 +4,7 @@ ghost use mathlib.Core.Bool.{Bool, true, false, not, _&&_, _||_};
 ghost use Prim.Native.Nat.{ℕ, _+_, _-_, _*_, _<_, _≤_};
 ghost use lib.Dec.{T, eqb, leb};
 ghost use Rattle.sheets.specs.Words.{within, each};
-ghost use Rattle.truth.specs.Rows.{rowHas, tally};
+ghost use Rattle.truth.specs.Rows.{rowHas, tally, First};
 
 // A set of nodes 1 to 128.
 pub struct Row {
@@ -98,5 +98,38 @@ impl Row {
         ensures { λ r. ⌜ r ≡ tally 128 (rowHas self) ⌝ }
     {
         u64::count_ones(self.low) + u64::count_ones(self.high)
+    }
+
+    // The nodes of the one that the other has not.
+    pub fn difference(self, other: Row) -> Row
+        ensures { λ r. ⌜ ((s : ℕ) → rowHas r s ≡ (rowHas self s && not (rowHas other s))) ⌝ }
+    {
+        self.intersection(other.complement())
+    }
+
+    // Whether some node is in both.
+    pub fn meets(self, other: Row) -> bool
+        ensures { λ r. ⌜ r ≡ not (each 128 (λ s. not (rowHas self s && rowHas other s))) ⌝ }
+    {
+        !self.intersection(other).is_empty()
+    }
+
+    // A node of the row, or 0 where it has none.
+    pub fn first(self) -> u16
+        ensures { λ r. ⌜ First (rowHas self) r ⌝ }
+    {
+        if self.low != 0 {
+            return (u64::trailing_zeros(self.low) % 64) as u16 + 1;
+        }
+        if self.high != 0 {
+            return (u64::trailing_zeros(self.high) % 64) as u16 + 65;
+        }
+        0
+    }
+
+    pub fn without(self, s: u16) -> Row
+        ensures { λ r. ⌜ ((i : ℕ) → rowHas r i ≡ (rowHas self i && not (eqb i s))) ⌝ }
+    {
+        self.difference(Row::empty().with(s))
     }
 }

@@ -5,11 +5,12 @@ ghost use Prim.Native.Nat.{ℕ, _+_, _-_, _*_, _<_, _≤_};
 ghost use lib.Dec.{T, eqb, leb};
 ghost use Rattle.sheets.specs.Words.{within};
 ghost use Rattle.sheets.specs.Machine as Machine;
-ghost use Rattle.truth.specs.Rows.{rowHas, leadsInto};
-
+ghost use Rattle.truth.specs.Rows.{rowHas, rowsHas, leadsInto};
+use crate::rows::Row;
+use crate::tables::load;
+use crate::tables::store;
 use sheets::machine;
 use sheets::words::Step;
-use crate::rows::Row;
 
 // Some edge of node s leads into the row.
 pub fn leads_into(m: &[u16], s: u16, row: Row) -> bool
@@ -24,7 +25,8 @@ pub fn leads_into(m: &[u16], s: u16, row: Row) -> bool
             first,
             second: _,
             next,
-        } = step else {
+        } = step
+        else {
             return false;
         };
         if row.has(first) {
@@ -48,6 +50,123 @@ pub fn some_next(m: &[u16], row: Row) -> Row
         if leads_into(m, s, row) {
             out = out.with(s);
         }
+    }
+    out
+}
+
+// The nodes 1 to n.
+pub fn node_row(n: u16) -> Row
+    ensures { λ r. ⌜ ((s : ℕ) → rowHas r s ≡ (leb s n && within 1 128 s)) ⌝ }
+{
+    let mut out = Row::empty();
+    let mut s: u16 = 0;
+    while s < n {
+        s += 1;
+        out = out.with(s);
+    }
+    out
+}
+
+// The nodes where signal i is set.
+pub fn signal_row(m: &[u16], i: u16) -> Row
+    ensures { λ r. ⌜ ((s : ℕ) → rowHas r s ≡ (leb s (Machine.nodes (now (m .entry))) && (within 1 128 s && Machine.signalAt (now (m .entry)) i s))) ⌝ }
+{
+    let n = machine::nodes(m);
+    let mut out = Row::empty();
+    let mut s: u16 = 0;
+    while s < n {
+        s += 1;
+        if machine::signal_at(m, i, s) {
+            out = out.with(s);
+        }
+    }
+    out
+}
+
+// The start nodes.
+pub fn start_row(m: &[u16]) -> Row
+    ensures { λ r. ⌜ ((s : ℕ) → rowHas r s ≡ (leb s (Machine.nodes (now (m .entry))) && (within 1 128 s && eqb (Machine.startFlag (now (m .entry)) s) 1))) ⌝ }
+{
+    let n = machine::nodes(m);
+    let mut out = Row::empty();
+    let mut s: u16 = 0;
+    while s < n {
+        s += 1;
+        if machine::node_word(m, s, 1) == 1 {
+            out = out.with(s);
+        }
+    }
+    out
+}
+
+// The nodes that the edges of node s lead to.
+pub fn successor_row(m: &[u16], s: u16) -> Row
+    ensures { λ r. ⌜ ((t : ℕ) → rowHas r t ≡ (within 1 128 t && Machine.kripke (now (m .entry)) .edge s t)) ⌝ }
+{
+    let mut left = machine::edges(m);
+    let mut x = machine::node_word(m, s, 2);
+    let mut out = Row::empty();
+    while left > 0 {
+        let step = machine::edge(m, x);
+        let Step::Record {
+            number: _,
+            first,
+            second: _,
+            next,
+        } = step
+        else {
+            return out;
+        };
+        out = out.with(first);
+        x = next;
+        left -= 1;
+    }
+    out
+}
+
+// The successors of each node s, at row s - 1.
+pub fn successors(m: &[u16]) -> [u64; 512]
+    ensures { λ r. ⌜ ((s t : ℕ) → 1 ≤ s → s ≤ Machine.nodes (now (m .entry)) → s ≤ 256 → rowsHas r (s - 1) t ≡ (within 1 128 t && Machine.kripke (now (m .entry)) .edge s t)) ⌝ }
+{
+    let n = machine::nodes(m);
+    let mut out = [0u64; 512];
+    let mut s: u16 = 0;
+    while s < n && s < 256 {
+        let row = successor_row(m, s + 1);
+        store(&mut out, s as usize, row);
+        s += 1;
+    }
+    out
+}
+
+// The nodes 1 to n that the table has node t as a successor of.
+pub fn predecessor_row(next: &[u64; 512], n: u16, t: u16) -> Row
+    requires { ⌜ n ≤ 128 ⌝ }
+    ensures { λ r. ⌜ ((s : ℕ) → rowHas r s ≡ (leb s n && (within 1 128 s && rowsHas (now (next .entry)) (s - 1) t))) ⌝ }
+{
+    let mut out = Row::empty();
+    let mut s: u16 = 0;
+    while s < n {
+        let row = load(next, s as usize);
+        s += 1;
+        if row.has(t) {
+            out = out.with(s);
+        }
+    }
+    out
+}
+
+// The predecessors of each node t, at row t - 1.
+pub fn predecessors(next: &[u64; 512], n: u16) -> [u64; 512]
+    requires { ⌜ n ≤ 128 ⌝ }
+    ensures { λ r. ⌜ ((s t : ℕ) → 1 ≤ t → t ≤ n → rowsHas r (t - 1) s ≡ (leb s n && (within 1 128 s && rowsHas (now (next .entry)) (s - 1) t))) ⌝ }
+{
+    let mut out = [0u64; 512];
+    let mut t: u16 = 0;
+    while t < n {
+        let row = predecessor_row(next, n, t + 1);
+        store(&mut out, t as usize, row);
+        t += 1;
     }
     out
 }

@@ -1,25 +1,11 @@
-// Tables of rows in flat arrays, two words a row, and the rows of lines in the lent space.
+// Tables of rows in flat arrays of 256 rows, two words a row, and the rows of lines in the lent space, lines from 1.
 ghost use mathlib.Core.Path.{_≡_};
 ghost use Prim.Native.Nat.{ℕ, _+_, _-_, _*_, _<_, _≤_};
 ghost use lib.ListN.{length, getD, set};
-
 use crate::rows::Row;
 
-// The row at p of a table of 16.
-pub fn load(rows: &[u64; 32], p: usize) -> Row
-    requires { ⌜ p < 16 ⌝ }
-    ensures { λ r. ⌜ (r .low ≡ getD (now (rows .entry)) (2 * p) 0) × (r .high ≡ getD (now (rows .entry)) (2 * p + 1) 0) ⌝ }
-{
-    let low = rows[2 * p];
-    let high = rows[2 * p + 1];
-    Row {
-        low: low,
-        high: high,
-    }
-}
-
-// The row at k of a table of 256.
-pub fn load_allowed(rows: &[u64; 512], k: usize) -> Row
+// Row k of a table.
+pub fn load(rows: &[u64; 512], k: usize) -> Row
     requires { ⌜ k < 256 ⌝ }
     ensures { λ r. ⌜ (r .low ≡ getD (now (rows .entry)) (2 * k) 0) × (r .high ≡ getD (now (rows .entry)) (2 * k + 1) 0) ⌝ }
 {
@@ -31,15 +17,15 @@ pub fn load_allowed(rows: &[u64; 512], k: usize) -> Row
     }
 }
 
-pub fn store(rows: &mut [u64; 32], p: usize, row: Row)
-    requires { ⌜ p < 16 ⌝ }
-    ensures { λ r. ⌜ now (rows .exit) ≡ set (set (now (rows .entry)) (2 * p) (row .low)) (2 * p + 1) (row .high) ⌝ }
+pub fn store(rows: &mut [u64; 512], k: usize, row: Row)
+    requires { ⌜ k < 256 ⌝ }
+    ensures { λ r. ⌜ now (rows .exit) ≡ set (set (now (rows .entry)) (2 * k) (row .low)) (2 * k + 1) (row .high) ⌝ }
 {
-    rows[2 * p] = row.low;
-    rows[2 * p + 1] = row.high;
+    rows[2 * k] = row.low;
+    rows[2 * k + 1] = row.high;
 }
 
-// The row of line j in a space that the caller lends: two words a line, lines from 1.
+// The row of line j in the lent space.
 pub fn line_row(rows: &[u64], j: usize) -> Row
     requires { ⌜ (1 ≤ j) × (2 * j ≤ length (now rows)) ⌝ }
     ensures { λ r. ⌜ (r .low ≡ getD (now (rows .entry)) (2 * (j - 1)) 0) × (r .high ≡ getD (now (rows .entry)) (2 * (j - 1) + 1) 0) ⌝ }

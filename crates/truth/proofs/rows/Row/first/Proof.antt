@@ -1,0 +1,32 @@
+-- `first` meets its contract: the lowest set bit of the lower word that has one.
+use native.Mathlib.Omega.{arith}
+use Rattle.truth.proofs.RowSets.{found-low, found-high, found-none}
+use borrow.Author.Needs.{needs}
+use Rattle.truth.proofs.rows.Row.first.Statement.{statement}
+use Rattle.truth.proofs.rows.Row.first.Tie as tie
+
+cast-result : tie.Need-cast-result
+cast-result c = search needs
+
+add-result : tie.Need-add-result
+add-result c = search needs
+
+returns : tie.Need-returns
+returns c = found-low _ _ (omega arith) (search needs)
+
+cast-result-2 : tie.Need-cast-result-2
+cast-result-2 c = search needs
+
+add-result-2 : tie.Need-add-result-2
+add-result-2 c = search needs
+
+returns-2 : tie.Need-returns-2
+returns-2 c = found-high _ _ (omega arith) (search needs)
+
+returns-3 : tie.Need-returns-3
+returns-3 c = found-none _ _ (omega arith) (omega arith)
+
+pub first-spec : {M : Type 1} → statement M
+first-spec =
+    tie.close
+    (tie.spec cast-result add-result returns cast-result-2 add-result-2 returns-2 returns-3)

@@ -1,0 +1,75 @@
+-- `signal_row` meets its contract. The invariant: the row has the nodes up to s that set the signal. The measure is the nodes left.
+use mathlib.Core.Path.{_≡_, sym, _∙_}
+use borrow.Author.Needs.{needs}
+use native.Mathlib.Omega.{arith}
+use Prim.Native.Nat.{ℕ, _-_, _≤_}
+use Rattle.sheets.specs.Machine.{nodes, signalAt}
+use Rattle.truth.specs.Rows.{rowHas}
+use Rattle.truth.proofs.NodeLoops.{sofar, sofar-none, sofar-no, sofar-yes}
+use Rattle.truth.proofs.structure.signal_row.Statement.{statement}
+use Rattle.truth.proofs.structure.signal_row.Tie as tie
+
+abbrev Inv-loop : tie.InvT-loop
+Inv-loop m i n out₀ s₀ out s = (s ≤ n) × ((t : ℕ) → rowHas out t ≡ sofar (signalAt m i) s t)
+
+abbrev μ-loop : tie.MeasureT-loop
+μ-loop m i n out₀ s₀ out s = n - s
+
+nodes-requires : tie.Need-nodes-requires Inv-loop μ-loop
+nodes-requires c κs = search needs
+
+empty-requires : tie.Need-empty-requires Inv-loop μ-loop
+empty-requires c κs = search needs
+
+loop-holds : tie.Need-loop-holds Inv-loop μ-loop
+loop-holds c =
+    let a = c .before .before .before .args in
+    (omega arith, λ i. c .empty .ensures i ∙ sym (sofar-none (signalAt (a .m .now) (a .i)) i))
+
+add-s : tie.Need-add-s Inv-loop μ-loop
+add-s c = search needs
+
+signal-at-requires : tie.Need-signal-at-requires Inv-loop μ-loop
+signal-at-requires c κs = search needs
+
+with-requires : tie.Need-with-requires Inv-loop μ-loop
+with-requires c κs = search needs
+
+loop-less : tie.Need-loop-less Inv-loop μ-loop
+loop-less c = search needs
+
+loop-again : tie.Need-loop-again Inv-loop μ-loop
+loop-again c =
+    let a = c .before .before .before .before .before .before .before .before .args in
+    (omega arith, λ i. c .with .ensures i ∙ sofar-yes (signalAt (a .m .now) (a .i)) i _ _ (c .before .before .before .before .loop .inv .1 i) (sym (c .before .before .signal-at .ensures) ∙ c .before .if1 .taken))
+
+loop-less-2 : tie.Need-loop-less-2 Inv-loop μ-loop
+loop-less-2 c = search needs
+
+loop-again-2 : tie.Need-loop-again-2 Inv-loop μ-loop
+loop-again-2 c =
+    let a = c .before .before .before .before .before .before .before .args in
+    (omega arith, λ i. sofar-no (signalAt (a .m .now) (a .i)) i _ _ (c .before .before .before .loop .inv .1 i) (sym (c .before .signal-at .ensures) ∙ c .if1 .left))
+
+returns : tie.Need-returns Inv-loop μ-loop
+returns c i =
+    let e : c .before .loop .s ≡ nodes (c .before .before .before .before .before .args .m .now) = omega (arith, c .before .before .before .nodes .ensures) in
+    rw (← e) (c .before .loop .inv .1 i)
+
+pub signal-row-spec : {M : Type 1} → statement M
+signal-row-spec =
+    tie.close
+    (tie.spec
+    Inv-loop
+    μ-loop
+    nodes-requires
+    empty-requires
+    loop-holds
+    add-s
+    signal-at-requires
+    with-requires
+    loop-less
+    loop-again
+    loop-less-2
+    loop-again-2
+    returns)

@@ -1,0 +1,79 @@
+-- `start_row` meets its contract. The invariant: the row has the nodes up to s with the start flag. The measure is the nodes left.
+use mathlib.Core.Path.{_≡_, sym, _∙_}
+use borrow.Author.Needs.{needs}
+use borrow.Author.Tests.{eq-eqb, ne-eqb}
+use native.Mathlib.Omega.{arith}
+use Prim.Native.Nat.{ℕ, _-_, _≤_}
+use lib.Dec.{eqb}
+use Rattle.sheets.specs.Machine.{nodes, startFlag}
+use Rattle.truth.specs.Rows.{rowHas}
+use Rattle.truth.proofs.NodeLoops.{sofar, sofar-none, sofar-no, sofar-yes}
+use Rattle.truth.proofs.structure.start_row.Statement.{statement}
+use Rattle.truth.proofs.structure.start_row.Tie as tie
+
+abbrev Inv-loop : tie.InvT-loop
+Inv-loop m n out₀ s₀ out s = (s ≤ n) × ((i : ℕ) → rowHas out i ≡ sofar (λ k. eqb (startFlag m k) 1) s i)
+
+abbrev μ-loop : tie.MeasureT-loop
+μ-loop m n out₀ s₀ out s = n - s
+
+nodes-requires : tie.Need-nodes-requires Inv-loop μ-loop
+nodes-requires c κs = search needs
+
+empty-requires : tie.Need-empty-requires Inv-loop μ-loop
+empty-requires c κs = search needs
+
+loop-holds : tie.Need-loop-holds Inv-loop μ-loop
+loop-holds c =
+    let a = c .before .before .before .args in
+    (omega arith, λ i. c .empty .ensures i ∙ sym (sofar-none (λ k. eqb (startFlag (a .m .now) k) 1) i))
+
+add-s : tie.Need-add-s Inv-loop μ-loop
+add-s c = search needs
+
+node-word-requires : tie.Need-node-word-requires Inv-loop μ-loop
+node-word-requires c κs = search needs
+
+with-requires : tie.Need-with-requires Inv-loop μ-loop
+with-requires c κs = search needs
+
+loop-less : tie.Need-loop-less Inv-loop μ-loop
+loop-less c = search needs
+
+loop-again : tie.Need-loop-again Inv-loop μ-loop
+unfolding startFlag
+loop-again c =
+    let a = c .before .before .before .before .before .before .before .before .args in
+    (omega arith, λ i. c .with .ensures i ∙ sofar-yes (λ k. eqb (startFlag (a .m .now) k) 1) i _ _ (c .before .before .before .before .loop .inv .1 i) (eq-eqb _ 1 (sym (c .before .before .node-word .ensures) ∙ c .before .if1 .taken)))
+
+loop-less-2 : tie.Need-loop-less-2 Inv-loop μ-loop
+loop-less-2 c = search needs
+
+loop-again-2 : tie.Need-loop-again-2 Inv-loop μ-loop
+unfolding startFlag
+loop-again-2 c =
+    let a = c .before .before .before .before .before .before .before .args in
+    (omega arith, λ i. sofar-no (λ k. eqb (startFlag (a .m .now) k) 1) i _ _ (c .before .before .before .loop .inv .1 i) (ne-eqb _ 1 (λ e. c .if1 .left (c .before .node-word .ensures ∙ e))))
+
+returns : tie.Need-returns Inv-loop μ-loop
+returns c i =
+    let e : c .before .loop .s ≡ nodes (c .before .before .before .before .before .args .m .now) = omega (arith, c .before .before .before .nodes .ensures) in
+    rw (← e) (c .before .loop .inv .1 i)
+
+pub start-row-spec : {M : Type 1} → statement M
+start-row-spec =
+    tie.close
+    (tie.spec
+    Inv-loop
+    μ-loop
+    nodes-requires
+    empty-requires
+    loop-holds
+    add-s
+    node-word-requires
+    with-requires
+    loop-less
+    loop-again
+    loop-less-2
+    loop-again-2
+    returns)

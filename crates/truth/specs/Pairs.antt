@@ -1,0 +1,73 @@
+-- Sets of pairs of a position p on an automaton's chain, from 0, and a node s, from 1, held in tables of rows: row p has the nodes.
+-- What the solver finds: the largest set of pairs each of which has a step into it, and the pairs from which steps lead into a set.
+use mathlib.Core.Path.{_≡_}
+use mathlib.Core.Logic.{_⊎_}
+use Prim.Native.Nat.{ℕ, _+_, _-_, _*_, _≤_, _<_}
+use mathlib.Core.List.{List}
+use mathlib.Core.Bool.{Bool, _&&_}
+use lib.ListN.{length, getD}
+use lib.Dec.{T, leb}
+use Rattle.sheets.specs.Words.{within}
+use Rattle.truth.specs.Rows.{rowsHas}
+
+-- an edge leads from s to s′, in a table that has the successors of node s at row s - 1
+abbrev pub edgeIn : List ℕ → ℕ → ℕ → Bool
+edgeIn next s s′ = rowsHas next (s - 1) s′
+
+-- A step from (p, s) to (p′, s′), among positions below t: row 16 p + p′ of `allow` has the nodes at which the automaton may go
+-- from p to p′ (perhaps to several positions at one node), and an edge leads from s to s′.
+pub record Steps (allow next : List ℕ) (t p s p′ s′ : ℕ) : Type 0 where
+  pub below : p′ < t
+  pub allowed : T (rowsHas allow (16 * p + p′) s)
+  pub moves : T (edgeIn next s s′)
+
+-- every row of the first t has nodes 1 to n alone
+abbrev pub UpTo : ℕ → ℕ → List ℕ → Type 0
+UpTo n t ys = (p s : ℕ) → p < t → T (rowsHas ys p s) → s ≤ n
+
+-- row u - 1 of `back` has, among nodes 1 to n, those that an edge leads from to u
+abbrev pub Transposed : ℕ → List ℕ → List ℕ → Type 0
+Transposed n next back = (s u : ℕ) → 1 ≤ u → u ≤ n → rowsHas back (u - 1) s ≡ (leb s n && (within 1 128 s && edgeIn next s u))
+
+-- edges lead from nodes 1 to n to nodes 1 to n
+abbrev pub Stays : ℕ → List ℕ → Type 0
+Stays n next = (s u : ℕ) → 1 ≤ s → s ≤ n → T (edgeIn next s u) → u ≤ n
+
+-- ---- the pairs from which steps lead into a set
+
+-- finitely many steps lead from (p, s) into `xs`
+pub data Reaches (allow next : List ℕ) (t : ℕ) (xs : List ℕ) : ℕ → ℕ → Type 0 where
+  here : {p s : ℕ} → T (rowsHas xs p s) → Reaches allow next t xs p s
+  there : {p s p′ s′ : ℕ} → Steps allow next t p s p′ s′ → Reaches allow next t xs p′ s′ → Reaches allow next t xs p s
+
+-- the time at which a pair was met, in a table of 128 numbers a position
+abbrev pub timeOf : List ℕ → ℕ → ℕ → ℕ
+timeOf times p s = getD times (128 * p + (s - 1)) 0
+
+-- `ys` is the least set that has `xs` and every pair with a step into it; along some step from each other pair the time falls
+pub record Least (allow next : List ℕ) (t : ℕ) (xs ys times : List ℕ) : Type 0 where
+  pub keeps : (p s : ℕ) → p < t → T (rowsHas xs p s) → T (rowsHas ys p s)
+  pub reaches : (p s : ℕ) → p < t → T (rowsHas ys p s) → Reaches allow next t xs p s
+  pub closed : (p s p′ s′ : ℕ) → p < t → Steps allow next t p s p′ s′ → T (rowsHas ys p′ s′) → T (rowsHas ys p s)
+  pub falls : (p s : ℕ) → p < t → T (rowsHas ys p s)
+      → T (rowsHas xs p s) ⊎ ((p′ s′ : ℕ) × Steps allow next t p s p′ s′ × T (rowsHas ys p′ s′) × (timeOf times p′ s′ < timeOf times p s))
+
+-- ---- the largest set of pairs each of which has a step into it
+
+-- a step from (p, s) leads into the set W
+abbrev pub Onward : List ℕ → List ℕ → ℕ → (ℕ → ℕ → Bool) → ℕ → ℕ → Type 0
+Onward allow next t W p s = (p′ s′ : ℕ) × Steps allow next t p s p′ s′ × T (W p′ s′)
+
+-- every pair of W, of a position below t, has a step into W
+abbrev pub Lasts : List ℕ → List ℕ → ℕ → (ℕ → ℕ → Bool) → Type 0
+Lasts allow next t W = (p s : ℕ) → p < t → T (W p s) → Onward allow next t W p s
+
+-- the pairs of W, of positions below t, are all in `xs`
+abbrev pub Inside : ℕ → (ℕ → ℕ → Bool) → List ℕ → Type 0
+Inside t W xs = (p s : ℕ) → p < t → T (W p s) → T (rowsHas xs p s)
+
+-- `after` is the largest lasting set within `before`
+pub record Greatest (allow next : List ℕ) (t : ℕ) (before after : List ℕ) : Type 0 where
+  pub fewer : (p s : ℕ) → p < t → T (rowsHas after p s) → T (rowsHas before p s)
+  pub largest : (W : ℕ → ℕ → Bool) → Lasts allow next t W → Inside t W before → Inside t W after
+  pub lasts : Lasts allow next t (rowsHas after)

@@ -1,0 +1,46 @@
+-- The automaton of a path line beside the machine, in rows: where the argument lines have a valuation, where a position may go to
+-- another, and which positions are good.
+use mathlib.Core.Path.{_≡_}
+use Prim.Native.Nat.{ℕ, zero, suc, _+_, _-_, _*_, _^_, _≤_, _<_}
+use mathlib.Core.List.{List}
+use mathlib.Core.Bool.{Bool, true, false, not, _&&_}
+use lib.ListN.{length, getD}
+use lib.Dec.{T}
+use Rattle.sheets.specs.Words.{bit}
+use Rattle.sheets.specs.Rules.{lent, lineWord, variables, statesOf, accepting, automaton}
+use Rattle.truth.specs.Rows.{rowsHas}
+
+unfoldable pub same : Bool → Bool → Bool
+same true b = b
+same false b = not b
+
+-- bits 0 to v - 1 of w are the truths f 0 to f (v - 1)
+unfoldable pub agrees : ℕ → ℕ → (ℕ → Bool) → Bool
+unfolding same bit
+agrees zero w f = true
+agrees (suc v) w f = agrees v w f && same (bit w v) (f v)
+
+-- the truth at node s of the line of variable i + 1 of line j, by the rows of the lines above
+abbrev pub argumentAt : List ℕ → List ℕ → ℕ → ℕ → ℕ → Bool
+argumentAt R rows j s i = rowsHas rows (lineWord lent R j (2 + i) - 1) s
+
+-- the state at position p of automaton x's chain
+abbrev pub stateAt : List ℕ → ℕ → ℕ → ℕ
+stateAt R x p = getD (statesOf R x) p 0
+
+-- `allow` has at row 16 p + p′ the nodes of `all` at which automaton x goes from the state at p to the state at p′, under the
+-- valuation that the argument lines of line j have there
+pub record Allowed (R rows : List ℕ) (all : ℕ → Bool) (j x t : ℕ) (allow : List ℕ) : Type 0 where
+  pub inside : (k s : ℕ) → T (rowsHas allow k s) → T (all s)
+  pub goes : (p p′ s w : ℕ) → p < t → p′ < t → w < 2 ^ variables R x → T (agrees (variables R x) w (argumentAt R rows j s)) → T (all s)
+      → rowsHas allow (16 * p + p′) s ≡ automaton R x .goes (stateAt R x p) w (stateAt R x p′)
+
+-- accepting states are good for operation 3, non-accepting ones for operation 4
+unfoldable pub good : Bool → List ℕ → ℕ → Bool
+unfolding accepting
+good false R q = accepting R q
+good true R q = not (accepting R q)
+
+-- row p has all nodes of `all` where the state at p is good, and none otherwise
+pub record GoodRows (R : List ℕ) (all : ℕ → Bool) (x t : ℕ) (exchanged : Bool) (rows : List ℕ) : Type 0 where
+  pub row : (p s : ℕ) → p < t → rowsHas rows p s ≡ (all s && good exchanged R (stateAt R x p))
