@@ -7,6 +7,7 @@ pub mod Bits
 pub mod BitLaws
 pub mod Bounds
 pub mod Chains
+pub mod RisingChains
 pub mod Records
 pub mod ChainTests
 pub mod EachLoops

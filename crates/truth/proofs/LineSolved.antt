@@ -17,11 +17,14 @@ use Rattle.sheets.proofs.Search.{within-in}
 use Rattle.sheets.proofs.Bits.{number-of}
 use Rattle.sheets.proofs.Positions.{below-split, place-in, place-of}
 use Rattle.sheets.proofs.AcceptedMachine.{nodes-sized, edge-stays}
+use Rattle.sheets.proofs.RisingChains.{one-position}
 use Rattle.sheets.proofs.AcceptedRule.{initial-on, goes-on, first-state}
 use Rattle.truth.specs.Truth.{Truths, Valuation, SomePath}
 use Rattle.truth.specs.Labelling.{rowBit}
 use Rattle.truth.specs.Rows.{rowsHas}
-use Rattle.truth.specs.Pairs.{edgeIn, Least, Greatest}
+use Rattle.truth.specs.Pairs.{edgeIn, Steps, Least, Greatest}
+use Rattle.truth.specs.Walked.{Looped}
+use Rattle.truth.specs.Lists.{Step, Lasso}
 use Rattle.truth.specs.Product.{same, agrees, argumentAt, stateAt, good, Allowed, GoodRows}
 use Rattle.truth.proofs.RowBits.{row-bit}
 use Rattle.truth.proofs.EndlessPaths.{Arena, In, Move, Endless, Apart, Separate}
@@ -234,3 +237,51 @@ module _ (M R : List ℕ) (machine-ok : machineRefusal M ≡ 0) (rule-ok : ruleR
           let h : In A 1 s = record { state-from = omega arith; state-to = omega (arith, k .1); node-from = a; node-to = b } in
           let r = solved allow next (nodes M) t (λ q. good exchanged R (st q)) stays goods xs good-is great ys times least may separate 1 s h in
           (λ y. path-of (r .0 y), λ p. r .1 (endless-of p))
+
+    -- ---- a walk that comes back shows a path
+
+    module _ (node position : ℕ → ℕ) (len back : ℕ) (goods xs : List ℕ) (goodRows : GoodRows R all x t exchanged goods)
+        (fewer : (p s : ℕ) → p < t → T (rowsHas xs p s) → T (rowsHas goods p s))
+        (walk : Looped allow next t (nodes M) xs s node position len back) where
+      walk-node : (i : ℕ) → 1 ≤ i → i ≤ len → (1 ≤ node i) × (node i ≤ nodes M)
+      walk-node zero l h = absurd (omega arith)
+      walk-node (suc zero) l h = rw (walk .starts) (a, b)
+      walk-node (suc (suc i)) l h =
+          let k = walk-node (suc i) (omega arith) (omega arith) in
+          stays (node (suc i)) (node (suc (suc i))) (k .0) (k .1) (walk .steps (suc i) (omega arith) (omega arith) .moves)
+
+      -- a step of the walk is a step of the automaton and an edge
+      takes : (i k : ℕ) → 1 ≤ i → i ≤ len → Steps allow next t (position i) (node i) (position k) (node k)
+          → Step (automaton R x) Above arg (node i) (stateAt R x (position i)) (stateAt R x (position k))
+      unfolding automaton
+      takes i k l h st =
+          let r = walk-node i l h in
+          record {
+            valuation = value (node i) (r .0) (r .1) .0;
+            values = valuation-of (node i) (r .0) (r .1);
+            goes = rw (goes-as (node i) (r .0) (r .1) (position i) (position k) (walk .below i l h) (st .below)) at (st .allowed);
+          }
+
+      edge-along : (i k : ℕ) → 1 ≤ i → i ≤ len → Steps allow next t (position i) (node i) (position k) (node k) → T (kripke M .edge (node i) (node k))
+      edge-along i k l h st = let r = walk-node i l h in edge-of (node i) (node k) (r .0) (r .1) (st .moves)
+
+      pub lasso : Lasso (kripke M) (automaton R x) Above arg (good exchanged R) s node (λ i. stateAt R x (position i)) len back
+      unfolding automaton
+      lasso = record {
+        back-from = walk .back-from;
+        back-to = walk .back-to;
+        starts = walk .starts;
+        begins = rw (walk .begins) (first-state lent R rule-ok x lo hi);
+        moves = λ i l h. edge-along i (suc i) l (omega arith) (walk .steps i l h);
+        steps = λ i l h. takes i (suc i) l (omega arith) (walk .steps i l h);
+        moves-back = let f = walk .back-from in let g = walk .back-to in edge-along len back (omega arith) (omega arith) (walk .steps-back);
+        steps-back = let f = walk .back-from in let g = walk .back-to in takes len back (omega arith) (omega arith) (walk .steps-back);
+        recurs = λ i l h.
+            let f = walk .back-from in
+            let k = walk .below i (omega arith) h in
+            let g = fewer (position i) (node i) k (walk .lasting i l h) in
+            and-right (all (node i)) (good exchanged R (stateAt R x (position i))) (rw (goodRows .row (position i) (node i) k) at g);
+        once = λ i k l m h e f.
+            walk .once i k l m h e
+            (one-position lent R rule-ok x lo hi (position i) (position k) (walk .below i l (omega arith)) (walk .below k (omega arith) h) f);
+      }

@@ -7,9 +7,9 @@ use mathlib.Core.Bool.{Bool, true, false}
 use lib.ListN.{length}
 use lib.Count.{ones}
 use lib.Dec.{T, leb}
-use Rattle.sheets.specs.Words.{word, bit}
+use Rattle.sheets.specs.Words.{word, bit, indicator}
 use Rattle.sheets.specs.Questions.{Question, ask}
-use Rattle.sheets.specs.Machine.{machineQuestions, nodes, signals}
+use Rattle.sheets.specs.Machine.{machineQuestions, nodes, signals, kripke}
 use Rattle.sheets.specs.Rules.{Form, lent, ruleQuestions, overSignals, lines}
 use Rattle.truth.specs.Truth.{TrueAt}
 
@@ -38,3 +38,13 @@ pub record Rows (M R before after : List ℕ) : Type 0 where
   pub truth : (j s : ℕ) → 1 ≤ j → j ≤ lines R → 1 ≤ s → s ≤ nodes M → T (rowBit after j s) ↔ TrueAt lent M R j s
   pub clear : (j s : ℕ) → 1 ≤ j → j ≤ lines R → nodes M < s → s ≤ 128 → rowBit after j s ≡ false
   pub rest : (i : ℕ) → 2 * lines R ≤ i → word after i ≡ word before i
+
+-- the machine sheet that a question is put to, in a call with one machine sheet: 1 for questions 1 to 6, otherwise 0
+unfoldable pub sheetOf : ℕ → ℕ
+unfolding indicator
+sheetOf q = indicator (leb q 6)
+
+-- every start node of M passes
+unfoldable pub StartsIn : List ℕ → (ℕ → Bool) → Type 0
+unfolding kripke
+StartsIn M p = (s : ℕ) → T (kripke M .start s) → T (p s)

@@ -1,13 +1,15 @@
 -- The automaton of a path line beside the machine, in rows: where the argument lines have a valuation, where a position may go to
 -- another, and which positions are good.
 use mathlib.Core.Path.{_≡_}
+use mathlib.Core.Logic.{_⊎_}
 use Prim.Native.Nat.{ℕ, zero, suc, _+_, _-_, _*_, _^_, _≤_, _<_}
 use mathlib.Core.List.{List}
-use mathlib.Core.Bool.{Bool, true, false, not, _&&_}
+use mathlib.Core.Bool.{Bool, true, false, not, _&&_, _||_}
 use lib.ListN.{length, getD}
-use lib.Dec.{T}
-use Rattle.sheets.specs.Words.{bit}
-use Rattle.sheets.specs.Rules.{lent, lineWord, variables, statesOf, accepting, automaton}
+use lib.Dec.{T, eqb}
+use Rattle.sheets.specs.Words.{bit, anyOf}
+use Rattle.sheets.specs.Positions.{someBelow}
+use Rattle.sheets.specs.Rules.{lent, lineWord, variables, statesOf, accepting, automaton, transitionsOf, transitionTarget, mask}
 use Rattle.truth.specs.Rows.{rowsHas}
 
 unfoldable pub same : Bool → Bool → Bool
@@ -44,3 +46,25 @@ good true R q = not (accepting R q)
 -- row p has all nodes of `all` where the state at p is good, and none otherwise
 pub record GoodRows (R : List ℕ) (all : ℕ → Bool) (x t : ℕ) (exchanged : Bool) (rows : List ℕ) : Type 0 where
   pub row : (p s : ℕ) → p < t → rowsHas rows p s ≡ (all s && good exchanged R (stateAt R x p))
+
+-- ---- what the tables are made of
+
+-- under valuation w state q goes to q′: `automaton R x .goes`, which is the same of every automaton x
+unfoldable pub takes : List ℕ → ℕ → ℕ → ℕ → Bool
+unfolding anyOf transitionsOf mask bit transitionTarget
+takes R q w q′ = anyOf (transitionsOf R q) (λ y. bit (mask R y) w && eqb (transitionTarget R y) q′)
+
+-- `after` is `before` with one mask more at each of t positions that has the target
+pub record Added (states : List ℕ) (t target mask : ℕ) (before after : List ℕ) : Type 0 where
+  pub size : length after ≡ 16
+  pub more : (k w : ℕ) → k < t → bit (getD after k 0) w ≡ (bit (getD before k 0) w || (bit mask w && eqb target (getD states k 0)))
+
+-- the lines of variables 1 to v of line j have rows
+abbrev pub Refers : List ℕ → List ℕ → ℕ → ℕ → Type 0
+Refers R rows j v = (i : ℕ) → i < v → (1 ≤ lineWord lent R j (2 + i)) × (2 * lineWord lent R j (2 + i) ≤ length rows)
+
+-- `after` is `before` with, at rows 16 p to 16 p + t - 1, the rows of a table of valuations that the masks there have
+pub record Masked (table : List ℕ) (v : ℕ) (masks : List ℕ) (p t : ℕ) (before after : List ℕ) : Type 0 where
+  pub size : length after ≡ 512
+  pub here : (k s : ℕ) → k < t → rowsHas after (16 * p + k) s ≡ someBelow (2 ^ v) (λ w. bit (getD masks k 0) w && rowsHas table w s)
+  pub other : (q s : ℕ) → (q < 16 * p) ⊎ (16 * p + t ≤ q) → rowsHas after q s ≡ rowsHas before q s

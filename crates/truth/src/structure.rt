@@ -1,5 +1,6 @@
 // The machine's structure in rows, read from the lent words: the nodes with an edge into a row, the nodes of a signal, the start nodes.
 ghost use mathlib.Core.Path.{_≡_};
+ghost use mathlib.Core.Logic.{_↔_};
 ghost use mathlib.Core.Bool.{Bool, true, false, not, _&&_, _||_};
 ghost use Prim.Native.Nat.{ℕ, _+_, _-_, _*_, _<_, _≤_};
 ghost use lib.Dec.{T, eqb, leb};
@@ -169,4 +170,20 @@ pub fn predecessors(next: &[u64; 512], n: u16) -> [u64; 512]
         t += 1;
     }
     out
+}
+
+// The nodes of which one of the row is a successor, where `back` has the predecessors of node u at row u - 1.
+pub fn before(back: &[u64; 512], from: Row) -> Row
+    ensures { λ r. ⌜ ((s : ℕ) → T (rowHas r s) ↔ ((u : ℕ) × T (rowHas from u) × T (rowsHas (now (back .entry)) (u - 1) s))) ⌝ }
+{
+    let mut out = Row::empty();
+    let mut left = from;
+    loop {
+        let u = left.first();
+        if u == 0 {
+            return out;
+        }
+        out = out.union(load(back, u as usize - 1));
+        left = left.without(u);
+    }
 }

@@ -1,0 +1,75 @@
+-- Chains rise: a link leads to a higher number, so the records of a chain stand in rising order, and none is on it twice.
+use mathlib.Core.Path.{_≡_, refl}
+use mathlib.Core.Logic.{_⊎_, inl, inr, ⊎-elim}
+use Prim.Native.Nat.{ℕ, zero, suc, _≤_, _<_}
+use native.Mathlib.Omega.{arith}
+use mathlib.Core.List.{List, [], _∷_}
+use mathlib.Core.Bool.{_&&_}
+use lib.ListN.{length, getD}
+use lib.Dec.{T, leb, leb→le, ltb, ltb→lt, eqb, eqb→eq}
+use Rattle.sheets.specs.Words.{chain, link}
+use Rattle.sheets.specs.Rules.{Form, states, automata, stateWord, initial, statesOf, ruleRefusal, q9, q10}
+use Rattle.sheets.proofs.Tests.{and-left, and-right, or-cases}
+use Rattle.sheets.proofs.Search.{le-or-gt, within-at, each-at}
+use Rattle.sheets.proofs.Questions.{rule-answers}
+
+-- a link is none, or a higher record's number
+abbrev pub Rising : ℕ → (ℕ → ℕ) → Type 0
+Rising m next = (x : ℕ) → 1 ≤ x → x ≤ m → (next x ≡ 0) ⊎ ((x < next x) × (next x ≤ m))
+
+pub link-rises : (m x y : ℕ) → T (link m x y) → (y ≡ 0) ⊎ ((x < y) × (y ≤ m))
+unfolding link
+link-rises m x y t =
+    ⊎-elim (λ u. inl (eqb→eq y 0 u))
+    (λ u. inr (ltb→lt x y (and-left (ltb x y) (leb y m) u), leb→le y m (and-right (ltb x y) (leb y m) u))) (or-cases (eqb y 0) (ltb x y && leb y m) t)
+
+module _ (m : ℕ) (next : ℕ → ℕ) (rising : Rising m next) where
+  -- a chain with a record begins with one
+  not-empty : (f x k : ℕ) → k < length (chain f next x) → 1 ≤ x
+  unfolding chain
+  not-empty zero x k l = absurd (omega arith)
+  not-empty (suc f) zero k l = absurd (omega arith)
+  not-empty (suc f) (suc x) k l = omega arith
+
+  -- the record after x, where the chain goes on
+  goes-up : (f x k : ℕ) → 1 ≤ x → x ≤ m → k < length (chain f next (next x)) → (x < next x) × (next x ≤ m)
+  goes-up f x k lo hi l = ⊎-elim (λ e. absurd (omega (arith, not-empty f (next x) k l))) (λ r. r) (rising x lo hi)
+
+  -- no record of a chain is below its first
+  from-first : (f i k : ℕ) → i ≤ m → k < length (chain f next i) → i ≤ getD (chain f next i) k 0
+  unfolding chain
+  from-first zero i k h l = absurd (omega arith)
+  from-first (suc f) zero k h l = absurd (omega arith)
+  from-first (suc f) (suc i) zero h l = omega arith
+  from-first (suc f) (suc i) (suc k) h l =
+      let r = goes-up f (suc i) k (omega arith) h (omega arith) in omega (arith, from-first f (next (suc i)) k (r .1) (omega arith))
+
+  pub chain-rises : (f i a b : ℕ) → i ≤ m → a < b → b < length (chain f next i) → getD (chain f next i) a 0 < getD (chain f next i) b 0
+  unfolding chain
+  chain-rises zero i a b h l k = absurd (omega arith)
+  chain-rises (suc f) zero a b h l k = absurd (omega arith)
+  chain-rises (suc f) (suc i) a zero h l k = absurd (omega arith)
+  chain-rises (suc f) (suc i) zero (suc b) h l k =
+      let r = goes-up f (suc i) b (omega arith) h (omega arith) in omega (arith, from-first f (next (suc i)) b (r .1) (omega arith))
+  chain-rises (suc f) (suc i) (suc a) (suc b) h l k =
+      let r = goes-up f (suc i) b (omega arith) h (omega arith) in chain-rises f (next (suc i)) a b (r .1) (omega arith) (omega arith)
+
+-- the states of an accepted sheet's automaton stand at one position each
+module _ (F : Form) (R : List ℕ) (accepted : ruleRefusal F R ≡ 0) (x : ℕ) (lo : 1 ≤ x) (hi : x ≤ automata R) where
+  links-rise : Rising (states R) (λ q. stateWord R q 2)
+  unfolding q10
+  links-rise q a b =
+      link-rises (states R) q (stateWord R q 2) (search (and-right, each-at (states R) _ (rule-answers F R accepted .ten) q a b))
+
+  first-in : initial R x ≤ states R
+  unfolding q9
+  first-in = within-at 1 (states R) (initial R x) (search (and-right, each-at (automata R) _ (rule-answers F R accepted .nine) x lo hi)) .1
+
+  rises-at : (a b : ℕ) → a < b → b < length (statesOf R x) → getD (statesOf R x) a 0 < getD (statesOf R x) b 0
+  unfolding statesOf
+  rises-at a b l k = chain-rises (states R) (λ q. stateWord R q 2) links-rise (states R) (initial R x) a b first-in l k
+
+  pub one-position : (a b : ℕ) → a < length (statesOf R x) → b < length (statesOf R x) → getD (statesOf R x) a 0 ≡ getD (statesOf R x) b 0 → a ≡ b
+  one-position a b k l e =
+      ⊎-elim (λ le. ⊎-elim (λ ge. omega arith) (λ gt. absurd (omega (arith, rises-at a b gt l))) (le-or-gt b a)) (λ gt. absurd (omega (arith, rises-at b a gt k)))
+      (le-or-gt a b)

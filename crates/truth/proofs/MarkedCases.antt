@@ -1,0 +1,155 @@
+-- The marked cases of document 01 on truth: (e) Even on M3, (f) automata with no variable, (k) the percent of 1 of 8.
+use mathlib.Core.Path.{_≡_, refl, sym, subst, _∙_}
+use mathlib.Core.Logic.{⊎-elim}
+use Prim.Native.Nat.{ℕ, zero, suc, _+_, _-_, _^_, _≤_, _<_}
+use native.Mathlib.Omega.{arith}
+use mathlib.Core.List.{List}
+use mathlib.Core.Bool.{Bool, true, false, not, _&&_, _||_}
+use lib.Dec.{T, eqb, eqb→eq}
+use Rattle.sheets.specs.Words.{word, bit, anyOf, chain, within}
+use Rattle.sheets.specs.Machine.{nodes, edges, nodeWord, edgeWord, signalAt, startFlag, target, edgesOf, kripke, machineRefusal}
+use Rattle.sheets.specs.Rules.{lent, automata, states, transitions, automatonWord, stateWord, transitionWord, lineWord, variables, initial, accepting, transitionsOf, transitionTarget, mask, automaton, lineOf, line}
+use Rattle.sheets.specs.Worked.{M3}
+use Rattle.sheets.proofs.AcceptedMachine.{firstNext, first-edge, edge-stays}
+use Rattle.truth.specs.Truth.{Truths, Valuation, SomePath, Means, TrueWithin, True, TrueAt}
+use Rattle.truth.specs.Labelling.{percent}
+use Rattle.truth.specs.Worked.{EvenSheet, OneState}
+
+-- ---- (k)
+
+pub case-k : percent 1 8 ≡ 13
+unfolding percent
+case-k = refl
+
+-- where one transition is left, it is the one taken
+only : (a b : Bool) → T ((a && b) || false) → T b
+only true true t = tt
+only true false t = t
+only false b t = absurd t
+
+-- ---- (f)
+
+module _ (M : List ℕ) (accepted : machineRefusal M ≡ 0) where
+  -- the first edge of each node, for ever
+  follow : ℕ → ℕ → ℕ
+  follow s zero = s
+  follow s (suc i) = firstNext M (follow s i)
+
+  follow-in : (s i : ℕ) → 1 ≤ s → s ≤ nodes M → (1 ≤ follow s i) × (follow s i ≤ nodes M)
+  unfolding follow
+  follow-in s zero lo hi = (lo, hi)
+  follow-in s (suc i) lo hi =
+      let h = follow-in s i lo hi in
+      edge-stays M accepted (follow s i) (h .0) (h .1) (firstNext M (follow s i)) (first-edge M accepted (follow s i) (h .0) (h .1))
+
+  pub case-f-true : (s : ℕ) → 1 ≤ s → s ≤ nodes M → TrueAt lent M (OneState 1) 1 s
+  unfolding TrueAt True TrueWithin Means line lineOf lineWord lent automata states transitions automaton variables initial accepting transitionsOf transitionTarget mask automatonWord stateWord transitionWord word bit anyOf chain Valuation follow
+  case-f-true s lo hi = record {
+    node = follow s;
+    state = λ i. 1;
+    valuation = λ i. 0;
+    starts = refl;
+    begins = refl;
+    moves = λ i. let h = follow-in s i lo hi in first-edge M accepted (follow s i) (h .0) (h .1);
+    values = λ i. (omega arith, λ i l. absurd (omega arith));
+    goes = λ i. tt;
+    recurs = λ i. (i, omega arith, tt);
+  }
+
+  -- the automaton never leaves its one state
+  module _ (s : ℕ) (p : SomePath (kripke M) (automaton (OneState 0) 1) (TrueWithin (kripke M) (automaton (OneState 0)) (line lent (OneState 0)) 0)
+      (λ i. lineWord lent (OneState 0) 1 (2 + i)) (accepting (OneState 0)) s) where
+    stays-one : (i : ℕ) → p .state i ≡ 1
+    unfolding automaton initial automatonWord word transitionsOf transitionTarget mask transitions stateWord transitionWord automata states chain anyOf
+    stays-one zero = p .begins
+    stays-one (suc i) =
+        let g : T (automaton (OneState 0) 1 .goes 1 (p .valuation i) (p .state (suc i))) =
+        subst (λ (q : ℕ). T (automaton (OneState 0) 1 .goes q (p .valuation i) (p .state (suc i)))) (stays-one i) (p .goes i) in
+        sym (eqb→eq 1 (p .state (suc i)) (only (bit 1 (p .valuation i)) (eqb 1 (p .state (suc i))) g))
+
+    never : ⊥
+    unfolding accepting stateWord automata word
+    never = let r = p .recurs 0 in rw (stays-one (r .0)) at (r .2)
+
+  pub case-f-false : (s : ℕ) → TrueAt lent M (OneState 0) 1 s → ⊥
+  unfolding TrueAt True TrueWithin Means line lineOf lineWord lent automata states transitions word accepting automaton
+  case-f-false s p = never s p
+
+-- ---- (e)
+
+-- nodes and states in turn
+turn : ℕ → ℕ
+turn zero = 1
+turn (suc zero) = 2
+turn (suc (suc i)) = turn i
+
+pub case-e-true : TrueAt lent M3 EvenSheet 2 1
+unfolding TrueAt True TrueWithin Means line lineOf lineWord lent automata states transitions automaton variables initial accepting transitionsOf transitionTarget mask automatonWord stateWord transitionWord word bit anyOf chain Valuation kripke nodes edges nodeWord edgeWord signalAt target edgesOf turn
+case-e-true = record {
+  node = turn;
+  state = turn;
+  valuation = λ i. 2 - turn i;
+  starts = refl;
+  begins = refl;
+  moves = moves;
+  values = values;
+  goes = goes;
+  recurs = λ i. (i, omega arith, good i);
+}
+  where
+    moves : (i : ℕ) → T (kripke M3 .edge (turn i) (turn (suc i)))
+    moves zero = tt
+    moves (suc zero) = tt
+    moves (suc (suc i)) = moves i
+
+    values : (i : ℕ) → Valuation (TrueWithin (kripke M3) (automaton EvenSheet) (line lent EvenSheet) 1) 1 (λ k. lineWord lent EvenSheet 2 (2 + k)) (turn i) (2 - turn i)
+    values zero = (omega arith, elim [ zero ↦ λ l. (λ t. tt, λ t. tt) | suc k ↦ λ l. absurd (omega arith) ])
+    values (suc zero) = (omega arith, elim [ zero ↦ λ l. (λ t. absurd t, λ t. absurd t) | suc k ↦ λ l. absurd (omega arith) ])
+    values (suc (suc i)) = values i
+
+    goes : (i : ℕ) → T (automaton EvenSheet 1 .goes (turn i) (2 - turn i) (turn (suc i)))
+    goes zero = tt
+    goes (suc zero) = tt
+    goes (suc (suc i)) = goes i
+
+    good : (i : ℕ) → T (accepting EvenSheet (turn i))
+    good zero = tt
+    good (suc zero) = tt
+    good (suc (suc i)) = good i
+
+-- from node 2 the automaton is in state 3, which does not accept, after one step and for ever
+module _ (p : SomePath (kripke M3) (automaton EvenSheet 1) (TrueWithin (kripke M3) (automaton EvenSheet) (line lent EvenSheet) 1)
+    (λ k. lineWord lent EvenSheet 2 (2 + k)) (accepting EvenSheet) 2) where
+  -- signal 1 is not set at node 2, so the first valuation is 0
+  first-valuation : p .valuation 0 ≡ 0
+  unfolding Valuation TrueWithin Means line lineOf lineWord lent automata states transitions automaton variables automatonWord word bit kripke signalAt nodeWord
+  first-valuation =
+      let v = subst (λ (s : ℕ). Valuation (TrueWithin (kripke M3) (automaton EvenSheet) (line lent EvenSheet) 1) 1 (λ k. lineWord lent EvenSheet 2 (2 + k)) s (p .valuation 0)) (p .starts) (p .values 0) in
+      only-zero (p .valuation 0) (v .0) (v .1 0 (omega arith) .0)
+    where
+      only-zero : (w : ℕ) → w < 2 → (T (bit w 0) → ⊥) → w ≡ 0
+      only-zero zero l h = refl
+      only-zero (suc zero) l h = absurd (h tt)
+      only-zero (suc (suc w)) l h = absurd (omega arith)
+
+  third : (i : ℕ) → p .state (suc i) ≡ 3
+  unfolding automaton initial automatonWord word transitionsOf transitionTarget mask transitions stateWord transitionWord automata states chain anyOf bit
+  third zero =
+      let g = subst (λ (q : ℕ). T (automaton EvenSheet 1 .goes q (p .valuation 0) (p .state 1))) (p .begins) (p .goes 0) in
+      let h = subst (λ (w : ℕ). T (automaton EvenSheet 1 .goes 1 w (p .state 1))) first-valuation g in
+      sym (eqb→eq 3 (p .state 1) (only true (eqb 3 (p .state 1)) h))
+  third (suc i) =
+      let g = subst (λ (q : ℕ). T (automaton EvenSheet 1 .goes q (p .valuation (suc i)) (p .state (suc (suc i))))) (third i) (p .goes (suc i)) in
+      sym (eqb→eq 3 (p .state (suc (suc i))) (only (bit 3 (p .valuation (suc i))) (eqb 3 (p .state (suc (suc i)))) g))
+
+  no-path : ⊥
+  unfolding accepting stateWord automata word
+  no-path = let r = p .recurs 1 in ends (r .0) (r .1) (r .2)
+    where
+      ends : (k : ℕ) → 1 ≤ k → T (accepting EvenSheet (p .state k)) → ⊥
+      ends zero l t = absurd (omega arith)
+      ends (suc k) l t = rw (third k) at t
+
+pub case-e-false : TrueAt lent M3 EvenSheet 2 2 → ⊥
+unfolding TrueAt True TrueWithin Means line lineOf lineWord lent automata states transitions word accepting automaton
+case-e-false p = no-path p

@@ -1,0 +1,46 @@
+-- `grow` meets its contract. The invariant: turns led here from the first pairs. The measure is what is left to be met and to be taken.
+use borrow.Author.Needs.{needs}
+use mathlib.Core.Path.{_≡_, _∙_}
+use native.Mathlib.Omega.{arith}
+use lib.ListN.{length}
+use Rattle.truth.specs.Growing.{left, Turns}
+use Rattle.truth.proofs.GrowthMeasure.{left-most}
+use Rattle.truth.proofs.GrowthRounds.{turns-none, turns-more, no-times, growing-first, growing-last}
+use Rattle.truth.proofs.growth.grow.Statement.{statement}
+use Rattle.truth.proofs.growth.grow.Tie as tie
+
+abbrev Inv-loop : tie.InvT-loop
+Inv-loop allow back t ys₀ new₀ times₀ time₀ ys new times time = Turns allow back t 1 time ys₀ new₀ times₀ ys new times
+
+abbrev μ-loop : tie.MeasureT-loop
+μ-loop allow back t ys₀ new₀ times₀ time₀ ys new times time = left t ys new
+
+loop-holds : tie.Need-loop-holds Inv-loop μ-loop
+loop-holds c = turns-none _ _ _ _ _ _ _
+
+grow-round-requires : tie.Need-grow-round-requires Inv-loop μ-loop
+grow-round-requires c κs =
+    let a = c .before .before .before .before .args in
+    let g = c .before .before .before .loop .inv in
+    let most = left-most (a .t) (a .xs) (a .xs) (omega arith) in
+    let long : length (a .xs) ≡ 512 = search needs in
+    (omega arith, omega (arith, g .fewer, most), g .ys-size ∙ long, g .new-size ∙ long, g .times-size)
+
+returns : tie.Need-returns Inv-loop μ-loop
+returns c n next small transposed upTo within =
+    let a = c .before .before .before .before .before .before .args in
+    let g = turns-more _ _ _ _ _ _ _ _ _ _ _ _ _ _ _ (c .before .before .before .before .before .loop .inv) (c .before .grow-round .ensures .0) in
+    growing-last _ _ _ _ _ _ _ _ _ (g .grows n next (a .xs) transposed upTo (growing-first _ _ _ _ _ _ (no-times 2048) within)) (c .before .grow-round .ensures .1 (c .if1 .taken))
+
+loop-less : tie.Need-loop-less Inv-loop μ-loop
+loop-less c =
+    let g = c .before .grow-round .ensures .0 in
+    omega (arith, g .later, g .fewer, c .if1 .left)
+
+loop-again : tie.Need-loop-again Inv-loop μ-loop
+loop-again c = turns-more _ _ _ _ _ _ _ _ _ _ _ _ _ _ _ (c .before .before .before .before .before .loop .inv) (c .before .grow-round .ensures .0)
+
+pub grow-spec : {M : Type 1} → statement M
+grow-spec =
+    tie.close
+    (tie.spec Inv-loop μ-loop loop-holds grow-round-requires returns loop-less loop-again)

@@ -1,0 +1,96 @@
+-- `grow_from` meets its contract. The invariant: the pairs of the positions passed are added. The measure is how many positions are left.
+use borrow.Author.Needs.{needs}
+use mathlib.Core.Path.{_≡_, _∙_}
+use mathlib.Core.Logic.{_↔_}
+use Prim.Native.Nat.{ℕ, _+_, _-_, _*_, _≤_, _<_}
+use native.Mathlib.Omega.{arith}
+use lib.ListN.{length}
+use lib.Dec.{T}
+use Rattle.truth.specs.Rows.{rowHas, rowsHas}
+use Rattle.truth.specs.Growing.{Spread, enters, below}
+use Rattle.truth.proofs.TableLaws.{stored-length}
+use Rattle.truth.proofs.RowAdditions.{stored-none}
+use Rattle.truth.proofs.Spreading.{below-none, below-next, spread-none, spread-more}
+use Rattle.truth.proofs.growth.grow_from.Statement.{statement}
+use Rattle.truth.proofs.growth.grow_from.Tie as tie
+
+abbrev Inv-loop : tie.InvT-loop
+Inv-loop allow back t p2 time ys₀ new₀ times₀ prev p₀ ys new times p = (p ≤ t) × Spread (below p (enters allow p2 (rowHas prev))) time ys₀ new₀ times₀ ys new times
+
+abbrev μ-loop : tie.MeasureT-loop
+μ-loop allow back t p2 time ys₀ new₀ times₀ prev p₀ ys new times p = t - p
+
+load-requires : tie.Need-load-requires Inv-loop μ-loop
+load-requires c κs = search needs
+
+before-requires : tie.Need-before-requires Inv-loop μ-loop
+before-requires c κs = search needs
+
+empty-requires : tie.Need-empty-requires Inv-loop μ-loop
+empty-requires c κs = search needs
+
+store-requires : tie.Need-store-requires Inv-loop μ-loop
+store-requires c κs = search needs
+
+loop-holds : tie.Need-loop-holds Inv-loop μ-loop
+loop-holds c = (omega arith, spread-none _ _ _ _ _ (below-none _))
+
+grow-one-requires : tie.Need-grow-one-requires Inv-loop μ-loop
+grow-one-requires c κs =
+    let a = c .before .before .before .before .before .before .before .before .before .before .before .args in
+    let pre = c .before .before .before .before .before .before .before .before .before .before .before .pre in
+    let g = c .before .before .before .before .loop .inv .1 in
+    let long : 2 * a .p2 + 1 < length (a .new .now) = omega arith in
+    let store = c .before .before .before .before .before .store in
+    let clear : length (store .last .0) ≡ length (a .new .now) = rw (store .ensures) (stored-length (a .new .now) (a .p2) _ _ long) in
+    (omega arith, omega arith, g .ys-size ∙ pre .2, g .new-size ∙ clear ∙ pre .3, g .times-size ∙ pre .4)
+
+add-p : tie.Need-add-p Inv-loop μ-loop
+add-p c = search needs
+
+loop-less : tie.Need-loop-less Inv-loop μ-loop
+loop-less c = search needs
+
+loop-again : tie.Need-loop-again Inv-loop μ-loop
+loop-again c =
+    let s = c .before .before .before .before .before .before .before .before .before .before2 .result in
+    let a = c .before .before .before .before .before .before .before .before .before .before .before .before .args in
+    let l = c .before .before .before .before .before .loop in
+    let e = enters (a .allow .now) (a .p2) (rowHas s) in
+    (omega arith, spread-more (below (l .p) e) _ _ _ _ _ _ (below-next e (l .p)) _ _ _ _ _ _ (l .inv .1) (c .grow-one .ensures))
+
+returns : tie.Need-returns Inv-loop μ-loop
+returns c =
+    let a = c .before .before .before .before .before .before .before .before .args in
+    let l = c .before .loop in
+    let e = c .before .before .store .ensures in
+    let from = c .before .before .before .before .before .before .load .ensures in
+    let prev = c .before .before .before .before .before .before2 in
+    let before : (s : ℕ) → T (rowHas (prev .result) s) ↔ ((u : ℕ) × T (rowsHas (a .new .now) (a .p2) u) × T (rowsHas (a .back .now) (u - 1) s)) = rw (from .0, from .1) at (prev .ensures) in
+    let long : 2 * a .p2 + 1 < length (a .new .now) = omega arith in
+    let end : l .p ≡ a .t = omega arith in
+    record {
+      prev = rowHas (prev .result);
+      before = before;
+      cleared = c .before .before .store .last .0;
+      clear-size = rw e (stored-length (a .new .now) (a .p2) _ _ long);
+      clears = rw e (stored-none (a .new .now) (a .p2) _ _ long (c .before .before .before .empty .ensures));
+      spread = rw end at (l .inv .1);
+    }
+
+pub grow-from-spec : {M : Type 1} → statement M
+grow-from-spec =
+    tie.close
+    (tie.spec
+    Inv-loop
+    μ-loop
+    load-requires
+    before-requires
+    empty-requires
+    store-requires
+    loop-holds
+    grow-one-requires
+    add-p
+    loop-less
+    loop-again
+    returns)

@@ -1,0 +1,96 @@
+-- `allow_table` meets its contract. The invariant: the rows of positions below p are made, and every row has nodes of the valuations' rows alone.
+-- The measure is what is left of t.
+use borrow.Author.Needs.{needs}
+use mathlib.Core.Path.{_≡_}
+use Prim.Native.Nat.{_-_, _≤_}
+use native.Mathlib.Omega.{arith}
+use Rattle.sheets.specs.Rules.{variables}
+use Rattle.truth.specs.Rows.{rowHas}
+use Rattle.truth.proofs.AllowedTables.{Built, built-none, built-more, built-allowed}
+use Rattle.truth.proofs.product.allow_table.Statement.{statement}
+use Rattle.truth.proofs.product.allow_table.Tie as tie
+
+abbrev Inv-loop : tie.InvT-loop
+Inv-loop r rows j x t v states table out₀ p₀ out p = (p ≤ t) × Built r states table v t p out
+
+abbrev μ-loop : tie.MeasureT-loop
+μ-loop r rows j x t v states table out₀ p₀ out p = t - p
+
+automaton-word-requires : tie.Need-automaton-word-requires Inv-loop μ-loop
+automaton-word-requires c κs = search needs
+
+chain-states-requires : tie.Need-chain-states-requires Inv-loop μ-loop
+chain-states-requires c κs = search needs
+
+valuation-table-requires : tie.Need-valuation-table-requires Inv-loop μ-loop
+unfolding variables
+valuation-table-requires c κs =
+    let s = c .before .before .before .before in
+    rw (c .before .automaton-word .ensures) (s .pre .1, s .pre .3)
+
+loop-holds : tie.Need-loop-holds Inv-loop μ-loop
+loop-holds c = (omega arith, built-none _ _ _ _ _)
+
+cast-masks-from : tie.Need-cast-masks-from Inv-loop μ-loop
+cast-masks-from c = search needs
+
+mul-masks-from : tie.Need-mul-masks-from Inv-loop μ-loop
+mul-masks-from c = search needs
+
+array-read-masks-from : tie.Need-array-read-masks-from Inv-loop μ-loop
+array-read-masks-from c = search needs
+
+masks-from-requires : tie.Need-masks-from-requires Inv-loop μ-loop
+masks-from-requires c κs = search needs
+
+set-masks-requires : tie.Need-set-masks-requires Inv-loop μ-loop
+unfolding variables
+set-masks-requires c κs =
+    let s = c .before .before .before .before .before .before .before in
+    let pre = s .before .before .before .pre in
+    (rw (s .automaton-word .ensures) (pre .1), omega arith, pre .0, c .before .before .before .before .loop .inv .1 .size)
+
+add-p : tie.Need-add-p Inv-loop μ-loop
+add-p c = search needs
+
+loop-less : tie.Need-loop-less Inv-loop μ-loop
+loop-less c = search needs
+
+loop-again : tie.Need-loop-again Inv-loop μ-loop
+loop-again c =
+    let s = c .before .before .before .before .before .before in
+    let a = s .before .before .before .before .before .args in
+    let at = c .before .before .before .before .before .loop in (
+      omega arith,
+      built-more (a .r .now) (s .before .chain-states .result) (s .valuation-table .result) _ (a .t) (at .p) _ (at .out) _ (omega arith) (at .inv .1)
+          (c .before .before .before .masks-from .ensures) (c .set-masks .ensures),
+    )
+
+returns : tie.Need-returns Inv-loop μ-loop
+unfolding variables
+returns c =
+    let s = c .before .before in
+    let a = s .before .before .before .before .before .args in
+    let e : c .before .loop .p ≡ a .t = omega arith in
+    built-allowed (a .r .now) (a .rows .now) (s .before .chain-states .result) (s .valuation-table .result) (rowHas (a .all)) (a .j) (a .x) _ (a .t) _
+    (s .before .before .automaton-word .ensures) (s .before .chain-states .ensures) (s .valuation-table .ensures) (rw e at (c .before .loop .inv .1))
+
+pub allow-table-spec : {M : Type 1} → statement M
+allow-table-spec =
+    tie.close
+    (tie.spec
+    Inv-loop
+    μ-loop
+    automaton-word-requires
+    chain-states-requires
+    valuation-table-requires
+    loop-holds
+    cast-masks-from
+    mul-masks-from
+    array-read-masks-from
+    masks-from-requires
+    set-masks-requires
+    add-p
+    loop-less
+    loop-again
+    returns)

@@ -1,0 +1,104 @@
+-- `valuation_row` meets its contract. The invariant: the row has the nodes at which the first i lines agree with w. The measure is what is left of v.
+use borrow.Author.Needs.{needs}
+use mathlib.Core.Path.{_≡_, sym, _∙_}
+use Prim.Native.Nat.{ℕ, _-_, _≤_}
+use native.Mathlib.Omega.{arith}
+use mathlib.Core.Bool.{_&&_}
+use Rattle.truth.specs.Rows.{rowHas}
+use Rattle.truth.specs.Product.{agrees, argumentAt}
+use Rattle.truth.proofs.ValuationRows.{line-held, agrees-none, agrees-yes, agrees-no}
+use Rattle.truth.proofs.product.valuation_row.Statement.{statement}
+use Rattle.truth.proofs.product.valuation_row.Tie as tie
+
+abbrev Inv-loop : tie.InvT-loop
+Inv-loop r rows j v w out₀ i₀ out i = (i ≤ v) × ((s : ℕ) → rowHas out s ≡ (rowHas out₀ s && agrees i w (argumentAt r rows j s)))
+
+abbrev μ-loop : tie.MeasureT-loop
+μ-loop r rows j v w out₀ i₀ out i = v - i
+
+loop-holds : tie.Need-loop-holds Inv-loop μ-loop
+loop-holds c =
+    let a = c .before .before .args in
+    (omega arith, λ s. agrees-none (a .w) (argumentAt (a .r .now) (a .rows .now) (a .j) s) _)
+
+add-i : tie.Need-add-i Inv-loop μ-loop
+add-i c = search needs
+
+add-line-word : tie.Need-add-line-word Inv-loop μ-loop
+add-line-word c = search needs
+
+line-word-requires : tie.Need-line-word-requires Inv-loop μ-loop
+line-word-requires c κs = search needs
+
+cast-line-row : tie.Need-cast-line-row Inv-loop μ-loop
+cast-line-row c = search needs
+
+line-row-requires : tie.Need-line-row-requires Inv-loop μ-loop
+line-row-requires c κs =
+    let at = c .before .before .loop in
+    rw (c .line-word .ensures) (c .before .before .before .before .before .pre .1 (at .i) (c .before .loop-test .taken))
+
+bit-requires : tie.Need-bit-requires Inv-loop μ-loop
+bit-requires c κs = search needs
+
+intersection-requires : tie.Need-intersection-requires Inv-loop μ-loop
+intersection-requires c κs = search needs
+
+loop-less : tie.Need-loop-less Inv-loop μ-loop
+loop-less c = search needs
+
+loop-again : tie.Need-loop-again Inv-loop μ-loop
+loop-again c =
+    let read = c .before .before .before in
+    let a = read .before .before .before .before .before .before .args in
+    let at = read .before .before .before .loop in (
+      omega arith,
+      λ s.
+          let row = line-held (a .rows .now) _ _ _ _ s (read .before .line-word .ensures) (read .line-row .ensures .0) (read .line-row .ensures .1) in
+          c .intersection .ensures s ∙ rw row (agrees-yes (a .w) (argumentAt (a .r .now) (a .rows .now) (a .j) s) (rowHas (a .all) s) (at .i) _ (at .inv .1 s)
+          (sym (c .before .before .bit .ensures) ∙ c .before .if1 .taken)),
+    )
+
+difference-requires : tie.Need-difference-requires Inv-loop μ-loop
+difference-requires c κs = search needs
+
+loop-less-2 : tie.Need-loop-less-2 Inv-loop μ-loop
+loop-less-2 c = search needs
+
+loop-again-2 : tie.Need-loop-again-2 Inv-loop μ-loop
+loop-again-2 c =
+    let read = c .before .before .before in
+    let a = read .before .before .before .before .before .before .args in
+    let at = read .before .before .before .loop in (
+      omega arith,
+      λ s.
+          let row = line-held (a .rows .now) _ _ _ _ s (read .before .line-word .ensures) (read .line-row .ensures .0) (read .line-row .ensures .1) in
+          c .difference .ensures s ∙ rw row (agrees-no (a .w) (argumentAt (a .r .now) (a .rows .now) (a .j) s) (rowHas (a .all) s) (at .i) _ (at .inv .1 s)
+          (sym (c .before .before .bit .ensures) ∙ c .before .if1 .left)),
+    )
+
+returns : tie.Need-returns Inv-loop μ-loop
+returns c =
+    let e : c .before .loop .i ≡ c .before .before .before .before .args .v = omega arith in
+    rw e at (c .before .loop .inv .1)
+
+pub valuation-row-spec : {M : Type 1} → statement M
+valuation-row-spec =
+    tie.close
+    (tie.spec
+    Inv-loop
+    μ-loop
+    loop-holds
+    add-i
+    add-line-word
+    line-word-requires
+    cast-line-row
+    line-row-requires
+    bit-requires
+    intersection-requires
+    loop-less
+    loop-again
+    difference-requires
+    loop-less-2
+    loop-again-2
+    returns)

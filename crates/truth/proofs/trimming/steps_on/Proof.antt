@@ -1,0 +1,50 @@
+-- `steps_on` meets its contract: a step to p2, or one to any position.
+use borrow.Author.Needs.{needs}
+use Rattle.truth.proofs.TrimSteps.{meeting-onward, onward-meeting, meets-onward}
+use Rattle.truth.proofs.trimming.steps_on.Statement.{statement}
+use Rattle.truth.proofs.trimming.steps_on.Tie as tie
+
+sub-load : tie.Need-sub-load
+sub-load c = search needs
+
+load-requires : tie.Need-load-requires
+load-requires c κs = search needs
+
+load-requires-2 : tie.Need-load-requires-2
+load-requires-2 c κs = search needs
+
+meets-requires : tie.Need-meets-requires
+meets-requires c κs = search needs
+
+returns : tie.Need-returns
+returns c =
+    let a = c .before .before .before .before .args in
+    let pre = c .before .before .before .before .pre in
+    let to = c .before .before .before .load .ensures in
+    let there = c .before .before .load2 .ensures in
+    let on = meets-onward (a .allow .now) (a .next .now) (a .xs .now) (a .t) (a .p) (a .s) _ _ (to .0) (to .1) (a .p2) _ _ _ (pre .1) (pre .5) (there .0) (there .1) (c .before .meets .ensures) (c .if1 .taken) in
+    (λ _. on, λ _. tt)
+
+steps-into-requires : tie.Need-steps-into-requires
+steps-into-requires c κs = search needs
+
+returns-2 : tie.Need-returns-2
+returns-2 c =
+    let a = c .before .before .before .before .before .args in
+    let to = c .before .before .before .before .load .ensures in
+    let is = c .steps-into .ensures in (
+      λ y. meeting-onward (a .allow .now) (a .next .now) (a .xs .now) (a .t) (a .p) (a .s) _ _ (to .0) (to .1) (is .0 y),
+      λ o. is .1 (onward-meeting (a .allow .now) (a .next .now) (a .xs .now) (a .t) (a .p) (a .s) _ _ (to .0) (to .1) o),
+    )
+
+pub steps-on-spec : {M : Type 1} → statement M
+steps-on-spec =
+    tie.close
+    (tie.spec
+    sub-load
+    load-requires
+    load-requires-2
+    meets-requires
+    returns
+    steps-into-requires
+    returns-2)

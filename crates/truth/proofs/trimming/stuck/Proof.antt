@@ -1,0 +1,93 @@
+-- `stuck` meets its contract. The invariant: the nodes that are no longer left are sorted. The measure is how many are left.
+use borrow.Author.Needs.{needs}
+use borrow.Author.Tests.{not-true, not-false}
+use mathlib.Core.Path.{_≡_}
+use mathlib.Core.Bool.{true, false}
+use Rattle.sheets.proofs.Counting.{number}
+use Rattle.truth.specs.Rows.{rowHas, rowsHas}
+use Rattle.truth.specs.Pairs.{Onward}
+use Rattle.truth.proofs.RowWalks.{none-left, one-left, one-within, less-falls, Sorted, sorted-none, sorted-yes, sorted-no}
+use Rattle.truth.proofs.TrimSteps.{sorted-stuck}
+use Rattle.truth.proofs.trimming.stuck.Statement.{statement}
+use Rattle.truth.proofs.trimming.stuck.Tie as tie
+
+abbrev Inv-loop : tie.InvT-loop
+Inv-loop allow next t p p2 xs out₀ left₀ out left = Sorted (Onward allow next t (rowsHas xs) p) (rowHas left₀) (rowHas left) (rowHas out)
+
+abbrev μ-loop : tie.MeasureT-loop
+μ-loop allow next t p p2 xs out₀ left₀ out left = number 128 (rowHas left)
+
+empty-requires : tie.Need-empty-requires Inv-loop μ-loop
+empty-requires c κs = search needs
+
+loop-holds : tie.Need-loop-holds Inv-loop μ-loop
+loop-holds c = sorted-none _ _ _ (c .empty .ensures)
+
+first-requires : tie.Need-first-requires Inv-loop μ-loop
+first-requires c κs = search needs
+
+returns : tie.Need-returns Inv-loop μ-loop
+returns c = sorted-stuck _ _ _ _ _ _ _ _ (c .before .before .loop .inv) (none-left _ _ _ (c .before .first .ensures) (c .if1 .taken))
+
+without-requires : tie.Need-without-requires Inv-loop μ-loop
+without-requires c κs = search needs
+
+steps-on-requires : tie.Need-steps-on-requires Inv-loop μ-loop
+steps-on-requires c κs =
+    let pre = c .before .before .before .before .before .pre in
+    let n = c .before .if1 .left in
+    let f = c .before .before .first .ensures in
+    let r = one-within _ _ _ f n in
+    (pre .0, pre .1, pre .2, r .0, r .1, pre .3 _ (c .before .before .before .loop .inv .rest _ (one-left _ _ _ f n)))
+
+with-requires : tie.Need-with-requires Inv-loop μ-loop
+with-requires c κs = search needs
+
+loop-less : tie.Need-loop-less Inv-loop μ-loop
+loop-less c =
+    let n = c .before .before .before .before .if1 .left in
+    let f = c .before .before .before .before .before .first .ensures in
+    let r = one-within _ _ _ f n in
+    less-falls _ _ _ (c .before .before .before .without .ensures) (r .0) (r .1) (one-left _ _ _ f n)
+
+loop-again : tie.Need-loop-again Inv-loop μ-loop
+loop-again c =
+    let n = c .before .before .before .before .if1 .left in
+    let f = c .before .before .before .before .before .first .ensures in
+    let r = one-within _ _ _ f n in
+    let on = c .before .before .steps-on in
+    let no : on .result ≡ false = not-true (on .result) (c .before .if2 .taken) in
+    sorted-no _ _ _ _ _ _ (c .before .before .before .before .before .before .loop .inv) (one-left _ _ _ f n) (c .before .before .before .without .ensures) _ (c .with .ensures) (r .0) (r .1)
+    (λ o. rw no at (on .ensures .1 o))
+
+loop-less-2 : tie.Need-loop-less-2 Inv-loop μ-loop
+loop-less-2 c =
+    let n = c .before .before .before .if1 .left in
+    let f = c .before .before .before .before .first .ensures in
+    let r = one-within _ _ _ f n in
+    less-falls _ _ _ (c .before .before .without .ensures) (r .0) (r .1) (one-left _ _ _ f n)
+
+loop-again-2 : tie.Need-loop-again-2 Inv-loop μ-loop
+loop-again-2 c =
+    let on = c .before .steps-on in
+    let yes : on .result ≡ true = not-false (on .result) (c .if2 .left) in
+    let t = one-left _ _ _ (c .before .before .before .before .first .ensures) (c .before .before .before .if1 .left) in
+    sorted-yes _ _ _ _ _ _ (c .before .before .before .before .before .loop .inv) t (c .before .before .without .ensures) (on .ensures .0 (rw yes tt))
+
+pub stuck-spec : {M : Type 1} → statement M
+stuck-spec =
+    tie.close
+    (tie.spec
+    Inv-loop
+    μ-loop
+    empty-requires
+    loop-holds
+    first-requires
+    returns
+    without-requires
+    steps-on-requires
+    with-requires
+    loop-less
+    loop-again
+    loop-less-2
+    loop-again-2)

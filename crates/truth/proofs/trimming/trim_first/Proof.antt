@@ -1,0 +1,56 @@
+-- `trim_first` meets its contract. The invariant: the rows below p have lost what has nothing ahead. The measure is what is left of the positions.
+use borrow.Author.Needs.{needs}
+use mathlib.Core.Path.{_≡_}
+use Prim.Native.Nat.{_≤_, _-_}
+use native.Mathlib.Omega.{arith}
+use lib.ListN.{length}
+use Rattle.truth.specs.Trimmed.{Started}
+use Rattle.truth.proofs.TrimStart.{started-none}
+use Rattle.truth.proofs.trimming.trim_first.Statement.{statement}
+use Rattle.truth.proofs.trimming.trim_first.Tie as tie
+
+abbrev Inv-loop : tie.InvT-loop
+Inv-loop allow back t xs₀ gone₀ table p₀ xs gone p = (p ≤ t) × (length gone ≡ 512) × Started allow back t p xs₀ xs gone
+
+abbrev μ-loop : tie.MeasureT-loop
+μ-loop allow back t xs₀ gone₀ table p₀ xs gone p = t - p
+
+befores-requires : tie.Need-befores-requires Inv-loop μ-loop
+befores-requires c κs = search needs
+
+loop-holds : tie.Need-loop-holds Inv-loop μ-loop
+loop-holds c = (search needs, c .before .before .pre .2, started-none _ _ _ _ _ (c .before .before .pre .3))
+
+start-row-requires : tie.Need-start-row-requires Inv-loop μ-loop
+start-row-requires c κs = omega (arith, c .before .before .before .before .loop .inv .2 .size)
+
+add-p : tie.Need-add-p Inv-loop μ-loop
+add-p c = search needs
+
+loop-less : tie.Need-loop-less Inv-loop μ-loop
+loop-less c = search needs
+
+loop-again : tie.Need-loop-again Inv-loop μ-loop
+loop-again c =
+    let at = c .before .before .before .before .before .loop in
+    let r = c .start-row .ensures in
+    (search needs, r .1 .1, r .0 _ _ (c .before .before .before .before .before .before .befores .ensures) (at .inv .2))
+
+returns : tie.Need-returns Inv-loop μ-loop
+returns c =
+    let e : c .before .loop .p ≡ c .before .before .before .before .args .t = omega arith in
+    (rw e at (c .before .loop .inv .2), c .before .loop .inv .1)
+
+pub trim-first-spec : {M : Type 1} → statement M
+trim-first-spec =
+    tie.close
+    (tie.spec
+    Inv-loop
+    μ-loop
+    befores-requires
+    loop-holds
+    start-row-requires
+    add-p
+    loop-less
+    loop-again
+    returns)

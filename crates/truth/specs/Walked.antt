@@ -1,0 +1,37 @@
+-- A list of pairs that shows a path, by positions: the pairs that steps lead through from (0, s), and the place where the last goes back to.
+use mathlib.Core.Path.{_≡_}
+use Prim.Native.Nat.{ℕ, suc, _-_, _*_, _≤_, _<_}
+use mathlib.Core.List.{List}
+use lib.ListN.{getD}
+use lib.Dec.{T}
+use Rattle.truth.specs.Rows.{rowsHas}
+use Rattle.truth.specs.Pairs.{Steps, UpTo, Stays, Least, Lasts}
+
+-- Places 1 to `len`, with the pair at place i; from `back` on all pairs are in `xs`, and no pair is there twice.
+pub record Looped (allow next : List ℕ) (t n : ℕ) (xs : List ℕ) (s : ℕ) (node position : ℕ → ℕ) (len back : ℕ) : Type 0 where
+  pub back-from : 1 ≤ back
+  pub back-to : back ≤ len
+  pub starts : node 1 ≡ s
+  pub begins : position 1 ≡ 0
+  pub steps : (i : ℕ) → 1 ≤ i → i < len → Steps allow next t (position i) (node i) (position (suc i)) (node (suc i))
+  pub steps-back : Steps allow next t (position len) (node len) (position back) (node back)
+  pub below : (i : ℕ) → 1 ≤ i → i ≤ len → position i < t
+  pub lasting : (i : ℕ) → back ≤ i → i ≤ len → T (rowsHas xs (position i) (node i))
+  pub once : (i k : ℕ) → 1 ≤ i → i < k → k ≤ len → node i ≡ node k → position i ≡ position k → ⊥
+  pub fits : len ≤ n * t
+
+-- the tables that a walk goes by: a lasting set, the pairs that reach it with their times, edges that stay among the nodes 1 to n
+pub record Walkable (allow next : List ℕ) (t n : ℕ) (xs ys times : List ℕ) (s : ℕ) : Type 0 where
+  pub few : t ≤ 16
+  pub nodes : n ≤ 128
+  pub some : 1 ≤ t
+  pub stays : Stays n next
+  pub allow-up : UpTo n 256 allow
+  pub xs-up : UpTo n t xs
+  pub lasts : Lasts allow next t (rowsHas xs)
+  pub least : Least allow next t xs ys times
+  pub found : T (rowsHas ys 0 s)
+
+-- the item at place i of a list, places from 1
+abbrev pub placed : List ℕ → ℕ → ℕ
+placed xs i = getD xs (i - 1) 0

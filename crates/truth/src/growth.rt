@@ -1,0 +1,134 @@
+// The pairs from which steps lead into a set: the set grows by what its newest pairs are stepped to from, until nothing is new.
+ghost use mathlib.Core.Path.{_≡_};
+ghost use mathlib.Core.Logic.{_↔_};
+ghost use mathlib.Core.Bool.{_&&_};
+ghost use Prim.Native.Nat.{ℕ, _+_, _-_, _<_, _≤_};
+ghost use mathlib.Core.List.{List};
+ghost use lib.ListN.{length};
+ghost use lib.Dec.{T, eqb};
+ghost use Rattle.truth.specs.Rows.{rowHas, rowsHas};
+ghost use Rattle.truth.specs.Pairs.{UpTo, Transposed, Least};
+ghost use Rattle.truth.specs.Growing.{Marked, Spread, enters, Turn, left, Turns, NoneNew};
+use crate::rows::Row;
+use crate::structure::before;
+use crate::tables::load;
+use crate::tables::store;
+
+// The set, and the time at which each of its pairs was met.
+pub struct Growth {
+    pub rows: [u64; 512],
+    pub times: [u16; 2048],
+}
+
+// Writes the time at the nodes of the row, at position p.
+fn mark(row: Row, p: usize, time: u16, times: &mut [u16; 2048])
+    requires { ⌜ (p < 16) × (length (now times) ≡ 2048) ⌝ }
+    ensures { λ r. ⌜ Marked (rowHas row) p time (now (times .entry)) (now (times .exit)) ⌝ }
+{
+    let mut rest = row;
+    loop {
+        let s = rest.first();
+        if s == 0 {
+            return;
+        }
+        times[128 * p + (s as usize - 1)] = time;
+        rest = rest.without(s);
+    }
+}
+
+// Adds the pairs at p of the nodes `prev` at which the automaton may go to p2.
+fn grow_one(
+    allow: &[u64; 512],
+    p: usize,
+    p2: usize,
+    prev: Row,
+    time: u16,
+    ys: &mut [u64; 512],
+    new: &mut [u64; 512],
+    times: &mut [u16; 2048],
+)
+    requires { ⌜ (p < 16) × (p2 < 16) × (length (now ys) ≡ 512) × (length (now new) ≡ 512) × (length (now times) ≡ 2048) ⌝ }
+    ensures { λ r. ⌜ Spread (λ q s. eqb q p && enters (now (allow .entry)) p2 (rowHas prev) p s) time (now (ys .entry)) (now (new .entry)) (now (times .entry)) (now (ys .exit)) (now (new .exit)) (now (times .exit)) ⌝ }
+{
+    let here = load(ys, p);
+    let extra = load(allow, 16 * p + p2).intersection(prev).difference(here);
+    if extra.is_empty() {
+        return;
+    }
+    store(ys, p, here.union(extra));
+    let fresh = load(new, p);
+    store(new, p, fresh.union(extra));
+    mark(extra, p, time, times);
+}
+
+// Adds the pairs with a step to a new pair at p2.
+fn grow_from(
+    allow: &[u64; 512],
+    back: &[u64; 512],
+    t: usize,
+    p2: usize,
+    time: u16,
+    ys: &mut [u64; 512],
+    new: &mut [u64; 512],
+    times: &mut [u16; 2048],
+)
+    requires { ⌜ (p2 < t) × (t ≤ 16) × (length (now ys) ≡ 512) × (length (now new) ≡ 512) × (length (now times) ≡ 2048) ⌝ }
+    ensures { λ r. ⌜ Turn (now (allow .entry)) (now (back .entry)) t p2 time (now (ys .entry)) (now (new .entry)) (now (times .entry)) (now (ys .exit)) (now (new .exit)) (now (times .exit)) ⌝ }
+{
+    let prev = before(back, load(new, p2));
+    store(new, p2, Row::empty());
+    let mut p = 0;
+    while p < t {
+        grow_one(allow, p, p2, prev, time, ys, new, times);
+        p += 1;
+    }
+}
+
+// A turn for each position with a new pair; hands the next turn's time back.
+fn grow_round(
+    allow: &[u64; 512],
+    back: &[u64; 512],
+    t: usize,
+    time: u16,
+    ys: &mut [u64; 512],
+    new: &mut [u64; 512],
+    times: &mut [u16; 2048],
+) -> u16
+    requires { ⌜ (t ≤ 16) × (time + left t (now ys) (now new) ≤ 65535) × (length (now ys) ≡ 512) × (length (now new) ≡ 512) × (length (now times) ≡ 2048) ⌝ }
+    ensures turns { λ r. ⌜ Turns (now (allow .entry)) (now (back .entry)) t time r (now (ys .entry)) (now (new .entry)) (now (times .entry)) (now (ys .exit)) (now (new .exit)) (now (times .exit)) ⌝ }
+    ensures done { λ r. ⌜ (r ≡ time → NoneNew t (now (new .exit))) ⌝ }
+{
+    let mut at = time;
+    let mut k = 0;
+    while k < t {
+        let p2 = k;
+        k += 1;
+        if !load(new, p2).is_empty() {
+            grow_from(allow, back, t, p2, at, ys, new, times);
+            at += 1;
+        }
+    }
+    at
+}
+
+// `allow` has the nodes at which the automaton may go from p to p2 at row 16 p + p2, `back` the predecessors of node u at row u - 1;
+// t positions, of which `xs` has the first pairs.
+pub fn grow(allow: &[u64; 512], back: &[u64; 512], t: usize, xs: [u64; 512]) -> Growth
+    requires { ⌜ t ≤ 16 ⌝ }
+    ensures { λ r. ⌜ ((n : ℕ) (next : List ℕ) → n ≤ 128 → Transposed n next (now (back .entry)) → UpTo n 256 (now (allow .entry)) → UpTo n t xs → Least (now (allow .entry)) next t xs (r .rows) (r .times)) ⌝ }
+{
+    let mut ys = xs;
+    let mut new = xs;
+    let mut times = [0u16; 2048];
+    let mut time: u16 = 1;
+    loop {
+        let next = grow_round(allow, back, t, time, &mut ys, &mut new, &mut times);
+        if next == time {
+            return Growth {
+                rows: ys,
+                times: times,
+            };
+        }
+        time = next;
+    }
+}
