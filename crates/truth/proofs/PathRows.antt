@@ -1,7 +1,7 @@
 -- The row of a path line from the tables that the code makes: the good pairs trimmed and grown, at the initial position.
-use mathlib.Core.Path.{_≡_, refl, sym, subst, _∙_}
+use mathlib.Core.Path.{_≡_, refl, subst, fun-ext}
 use mathlib.Core.Logic.{_↔_, ⊎-elim}
-use Prim.Native.Nat.{ℕ, _+_, _-_, _*_, _≤_, _<_}
+use Prim.Native.Nat.{ℕ, _+_, _*_, _≤_, _<_}
 use native.Mathlib.Omega.{arith}
 use mathlib.Core.List.{List}
 use mathlib.Core.Bool.{Bool, true, false, not, _&&_}
@@ -20,7 +20,7 @@ use Rattle.sheets.proofs.ReachedPositions.{few-states}
 use Rattle.truth.specs.Rows.{held, rowsHas}
 use Rattle.truth.specs.Pairs.{edgeIn, Steps, UpTo, Transposed, Stays, Reaches, here, there, Least, Greatest}
 use Rattle.truth.specs.Product.{good, stateAt, Allowed, GoodRows}
-use Rattle.truth.specs.OneLine.{Ready, PathReady, PathRow}
+use Rattle.truth.specs.OneLine.{Ready, PathReady, PathRow, nodeSet, SolvedLine}
 use Rattle.truth.proofs.LineSolved.{line-solved}
 
 module _ (M R next back rows : List ℕ) (j x : ℕ) (path : PathReady M R next back rows j x) where
@@ -42,58 +42,61 @@ module _ (M R next back rows : List ℕ) (j x : ℕ) (path : PathReady M R next 
 
   -- ---- what they come to
 
-  module _ (exchanged : Bool) (all : ℕ → Bool) (allIs : (s : ℕ) → all s ≡ (leb s (nodes M) && within 1 128 s)) (allow goods xs ys times : List ℕ)
-      (allowed : Allowed R rows all j x (length (statesOf R x)) allow) (goodRows : GoodRows R all x (length (statesOf R x)) exchanged goods)
-      (trimmed : (n : ℕ) → n ≤ 128 → Transposed n next back → Stays n next → UpTo n 256 allow → UpTo n (length (statesOf R x)) goods
-      → Greatest allow next (length (statesOf R x)) goods xs)
-      (grown : (n : ℕ) (next : List ℕ) → n ≤ 128 → Transposed n next back → UpTo n 256 allow → UpTo n (length (statesOf R x)) xs
-      → Least allow next (length (statesOf R x)) xs ys times) where
-    abbrev t : ℕ
-    t = length (statesOf R x)
+  abbrev t : ℕ
+  t = length (statesOf R x)
 
-    all-node : (s : ℕ) → T (all s) → s ≤ nodes M
-    all-node s a = leb→le s (nodes M) (and-left (leb s (nodes M)) (within 1 128 s) (rw (allIs s) at a))
+  all-node : (s : ℕ) → T (nodeSet M s) → s ≤ nodes M
+  all-node s a = leb→le s (nodes M) (and-left (leb s (nodes M)) (within 1 128 s) a)
 
-    allow-up : UpTo (nodes M) 256 allow
+  module _ (exchanged : Bool) (allow goods : List ℕ) (allowed : Allowed R rows (nodeSet M) j x t allow) (goodRows : GoodRows R (nodeSet M) x t exchanged goods) where
+    pub allow-up : UpTo (nodes M) 256 allow
     allow-up k s l a = all-node s (allowed .inside k s a)
 
     goods-up : UpTo (nodes M) t goods
-    goods-up p s l g = all-node s (and-left (all s) (good exchanged R (stateAt R x p)) (rw (goodRows .row p s l) at g))
+    goods-up p s l g = all-node s (and-left (nodeSet M s) (good exchanged R (stateAt R x p)) (rw (goodRows .row p s l) at g))
 
-    pub great : Greatest allow next t goods xs
-    great = trimmed (nodes M) nodes-few (path .ready .predecessors) stays-in allow-up goods-up
+    pub within-goods : (xs : List ℕ) → ((p s : ℕ) → p < t → T (rowsHas xs p s) → T (rowsHas goods p s)) → UpTo (nodes M) t xs
+    within-goods xs fewer p s l a = goods-up p s l (fewer p s l a)
 
-    xs-up : UpTo (nodes M) t xs
-    xs-up p s l a = goods-up p s l (great .fewer p s l a)
-
-    pub least : Least allow next t xs ys times
-    least = grown (nodes M) next nodes-few (path .ready .predecessors) allow-up xs-up
-
-    reaches-up : {p s : ℕ} → p < t → Reaches allow next t xs p s → s ≤ nodes M
-    reaches-up {p} {s} l (here a) = xs-up p s l a
-    reaches-up {p} {s} l (there {p′ = p′} st w) = all-node s (allowed .inside (16 * p + p′) s (st .allowed))
-
-    module _ (row : ℕ → Bool) (rowIs : (s : ℕ) → row s ≡ rowsHas ys 0 s) (some : 0 < t) where
-      clear-at : (s : ℕ) → nodes M < s → row s ≡ false
-      clear-at s l =
-          ⊎-elim (λ y. let u = reaches-up some (least .reaches 0 s some (rw (rowIs s) at y)) in absurd (omega arith))
-          (failed (row s)) (test (row s))
-
-      pub path-row : PathRow M R rows j x exchanged row
-      path-row = record {
-        truth = λ s lo hi. rw (rowIs s)
-            (line-solved M R (path .ready .machine) (path .ready .rules) x (path .from) (path .to) rows j exchanged all allIs allow next allowed
-            (path .ready .successors) s lo hi goods xs ys times goodRows great least);
-        clear = clear-at;
+  -- the code's tables, with the chain's length and the nodes' row as the code has them
+  pub solved-line : (u : ℕ) → u ≡ t → (exchanged : Bool) (all : ℕ → Bool) → ((s : ℕ) → all s ≡ nodeSet M s)
+      → (allow goods xs ys times : List ℕ) → Allowed R rows all j x u allow → GoodRows R all x u exchanged goods
+      → ((n : ℕ) → n ≤ 128 → Transposed n next back → Stays n next → UpTo n 256 allow → UpTo n u goods → Greatest allow next u goods xs)
+      → ((n : ℕ) (next : List ℕ) → n ≤ 128 → Transposed n next back → UpTo n 256 allow → UpTo n u xs → Least allow next u xs ys times)
+      → SolvedLine M R next rows j x exchanged allow xs ys times
+  solved-line u e exchanged all allIs allow goods xs ys times a g tr gr =
+      let a′ : Allowed R rows (nodeSet M) j x t allow = subst (λ (f : ℕ → Bool). Allowed R rows f j x t allow) (fun-ext allIs) (rw e at a) in
+      let g′ : GoodRows R (nodeSet M) x t exchanged goods = subst (λ (f : ℕ → Bool). GoodRows R f x t exchanged goods) (fun-ext allIs) (rw e at g) in
+      let great = rw e at (tr (nodes M) nodes-few (path .ready .predecessors) stays-in (allow-up exchanged allow goods a′ g′) (rw (← e) at (goods-up exchanged allow goods a′ g′))) in
+      let up = within-goods exchanged allow goods a′ g′ xs (great .fewer) in
+      record {
+        goods = goods;
+        allowed = a′;
+        goodRows = g′;
+        greatest = great;
+        least = rw e at (gr (nodes M) next nodes-few (path .ready .predecessors) (allow-up exchanged allow goods a′ g′) (rw (← e) at up));
       }
 
-  -- the same, as the code has it: with the chain's length in a number, and the row in two words
-  pub path-row-of : (t : ℕ) → t ≡ length (statesOf R x) → (exchanged : Bool) (all : ℕ → Bool) → ((s : ℕ) → all s ≡ (leb s (nodes M) && within 1 128 s))
-      → (allow goods xs ys times : List ℕ) → Allowed R rows all j x t allow → GoodRows R all x t exchanged goods
-      → ((n : ℕ) → n ≤ 128 → Transposed n next back → Stays n next → UpTo n 256 allow → UpTo n t goods → Greatest allow next t goods xs)
-      → ((n : ℕ) (next : List ℕ) → n ≤ 128 → Transposed n next back → UpTo n 256 allow → UpTo n t xs → Least allow next t xs ys times)
-      → (low high : ℕ) → low ≡ getD ys 0 0 → high ≡ getD ys 1 0 → PathRow M R rows j x exchanged (held low high)
-  path-row-of t e exchanged all allIs allow goods xs ys times a g tr gr low high el eh =
-      let k = place-of (statesOf R x) (initial R x) (initial-on lent R (path .ready .rules) x (path .from) (path .to)) in
-      path-row exchanged all allIs allow goods xs ys times (rw e at a) (rw e at g) (rw e at tr) (rw e at gr) (held low high) (λ s. rw (el, eh))
-      (omega (arith, k .1))
+  module _ (exchanged : Bool) (allow xs ys times : List ℕ) (solved : SolvedLine M R next rows j x exchanged allow xs ys times) where
+    pub lasting-up : UpTo (nodes M) t xs
+    lasting-up = within-goods exchanged allow (solved .goods) (solved .allowed) (solved .goodRows) xs (solved .greatest .fewer)
+
+    reaches-up : {p s : ℕ} → p < t → Reaches allow next t xs p s → s ≤ nodes M
+    reaches-up {p} {s} l (here a) = lasting-up p s l a
+    reaches-up {p} {s} l (there {p′ = p′} st w) = all-node s (solved .allowed .inside (16 * p + p′) s (st .allowed))
+
+    -- there is a position
+    pub some-state : 0 < t
+    some-state = let k = place-of (statesOf R x) (initial R x) (initial-on lent R (path .ready .rules) x (path .from) (path .to)) in omega (arith, k .1)
+
+    clear-at : (s : ℕ) → nodes M < s → rowsHas ys 0 s ≡ false
+    clear-at s l =
+        ⊎-elim (λ y. let u = reaches-up some-state (solved .least .reaches 0 s some-state y) in absurd (omega arith)) (failed (rowsHas ys 0 s)) (test (rowsHas ys 0 s))
+
+    pub path-row-of : (low high : ℕ) → low ≡ getD ys 0 0 → high ≡ getD ys 1 0 → PathRow M R rows j x exchanged (held low high)
+    path-row-of low high el eh = record {
+      truth = λ s lo hi. rw (el, eh)
+          (line-solved M R (path .ready .machine) (path .ready .rules) x (path .from) (path .to) rows j exchanged (nodeSet M) (λ s. refl) allow next
+          (solved .allowed) (path .ready .successors) s lo hi (solved .goods) xs ys times (solved .goodRows) (solved .greatest) (solved .least));
+      clear = λ s l. rw (el, eh) (clear-at s l);
+    }

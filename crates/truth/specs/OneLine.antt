@@ -5,14 +5,14 @@ use Prim.Native.Nat.{ℕ, _+_, _-_, _*_, _≤_, _<_}
 use mathlib.Core.List.{List}
 use mathlib.Core.Bool.{Bool, false, _&&_}
 use lib.ListN.{length}
-use lib.Dec.{T}
+use lib.Dec.{T, leb}
 use Rattle.sheets.specs.Words.{within}
 use Rattle.sheets.specs.Machine.{nodes, kripke, machineRefusal}
-use Rattle.sheets.specs.Rules.{lent, lines, automata, variables, lineWord, automaton, line, ruleRefusal}
+use Rattle.sheets.specs.Rules.{lent, lines, automata, variables, statesOf, lineWord, automaton, line, ruleRefusal}
 use Rattle.truth.specs.Truth.{Means, SomePath}
-use Rattle.truth.specs.Product.{good}
+use Rattle.truth.specs.Product.{good, Allowed, GoodRows}
 use Rattle.truth.specs.Rows.{rowsHas}
-use Rattle.truth.specs.Pairs.{Transposed}
+use Rattle.truth.specs.Pairs.{Transposed, Greatest, Least}
 use Rattle.truth.specs.Labelling.{rowBit}
 
 -- accepted sheets, and the tables of the machine: the successors of node s at row s - 1, its predecessors likewise
@@ -39,3 +39,16 @@ pub record PathRow (M R rows : List ℕ) (j x : ℕ) (exchanged : Bool) (row : �
   pub truth : (s : ℕ) → 1 ≤ s → s ≤ nodes M
       → T (row s) ↔ SomePath (kripke M) (automaton R x) (λ i s. T (rowBit rows i s)) (λ i. lineWord lent R j (2 + i)) (good exchanged R) s
   pub clear : (s : ℕ) → nodes M < s → row s ≡ false
+
+-- the nodes of M, as a row has them
+abbrev pub nodeSet : List ℕ → ℕ → Bool
+nodeSet M s = leb s (nodes M) && within 1 128 s
+
+-- The tables of a path line, solved: where the automaton may go, the largest set of good pairs each of which has a step into it, and
+-- the pairs from which steps lead into that set, with their times.
+pub record SolvedLine (M R next rows : List ℕ) (j x : ℕ) (exchanged : Bool) (allow lasting reached times : List ℕ) : Type 0 where
+  pub goods : List ℕ
+  pub allowed : Allowed R rows (nodeSet M) j x (length (statesOf R x)) allow
+  pub goodRows : GoodRows R (nodeSet M) x (length (statesOf R x)) exchanged goods
+  pub greatest : Greatest allow next (length (statesOf R x)) goods lasting
+  pub least : Least allow next (length (statesOf R x)) lasting reached times

@@ -6,3 +6,4 @@ pub mod product; // product.rt: the automaton of a path line beside the machine
 pub mod trimming; // trimming.rt: the largest set of pairs each of which has a step into it
 pub mod growth; // growth.rt: the pairs from which steps lead into a set
 pub mod lines; // lines.rt: the row of one line
+pub mod labelling; // labelling.rt: the rows of a rule sheet, and the answer

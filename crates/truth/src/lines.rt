@@ -1,20 +1,66 @@
 // The row of one line, from whatever rows stand above it.
 ghost use mathlib.Core.Path.{_≡_};
+ghost use mathlib.Core.Bool.{not, _&&_, _||_};
 ghost use Prim.Native.Nat.{ℕ, _+_, _-_, _*_, _<_, _≤_};
 ghost use lib.ListN.{length, getD};
+ghost use lib.Dec.{leb};
+ghost use Rattle.sheets.specs.Words.{within};
+ghost use Rattle.sheets.specs.Machine as Machine;
 ghost use Rattle.sheets.specs.Rules as Rules;
-ghost use Rattle.truth.specs.Rows.{rowHas};
-ghost use Rattle.truth.specs.OneLine.{Ready, LineRow, PathReady, PathRow};
+ghost use Rattle.truth.specs.Rows.{rowHas, rowsHas};
+ghost use Rattle.truth.specs.OneLine.{Ready, LineRow, PathReady, PathRow, SolvedLine};
 use crate::growth::grow;
 use crate::product;
 use crate::rows::Row;
 use crate::structure;
+use crate::tables::line_row;
 use crate::tables::load;
 use crate::trimming::trim;
 use sheets::automata;
+use sheets::lines::Decoded;
+use sheets::lines::Line;
+use sheets::lines::decode;
 use sheets::machine;
 
-// The nodes from which the path of line j exists: automaton x, with accepting and non-accepting exchanged for operation 4.
+// The tables of a path line, solved.
+pub struct Solved {
+    pub allow: [u64; 512],
+    pub lasting: [u64; 512],
+    pub reached: [u64; 512],
+    pub times: [u16; 2048],
+}
+
+// Solves line j: automaton x, with accepting and non-accepting exchanged for operation 4.
+pub fn solve(
+    m: &[u16],
+    r: &[u16],
+    next: &[u64; 512],
+    back: &[u64; 512],
+    rows: &[u64],
+    j: u16,
+    x: u16,
+    exchanged: bool,
+) -> Solved
+    requires { ⌜ PathReady (now m) (now r) (now next) (now back) (now rows) j x ⌝ }
+    ensures { λ a. ⌜ SolvedLine (now (m .entry)) (now (r .entry)) (now (next .entry)) (now (rows .entry)) j x exchanged (a .allow) (a .lasting) (a .reached) (a .times) ⌝ }
+{
+    let all = structure::node_row(machine::nodes(m));
+    let t = automata::chain_length(r, x);
+    let allow = product::allow_table(r, rows, all, j, x, t);
+    let goods = product::good_table(r, all, x, t, exchanged);
+    let lasting = trim(&allow, next, back, t as usize, goods);
+    let grown = grow(&allow, back, t as usize, lasting);
+    let reached = grown.rows;
+    let times = grown.times;
+    Solved {
+        allow: allow,
+        lasting: lasting,
+        reached: reached,
+        times: times,
+    }
+}
+
+// The nodes from which the path of line j exists.
 pub fn path_row(
     m: &[u16],
     r: &[u16],
@@ -28,12 +74,51 @@ pub fn path_row(
     requires { ⌜ PathReady (now m) (now r) (now next) (now back) (now rows) j x ⌝ }
     ensures { λ row. ⌜ PathRow (now (m .entry)) (now (r .entry)) (now (rows .entry)) j x exchanged (rowHas row) ⌝ }
 {
+    let solved = solve(m, r, next, back, rows, j, x, exchanged);
+    let reached = solved.reached;
+    load(&reached, 0)
+}
+
+// The nodes that the row of line k has not.
+pub fn negation_row(m: &[u16], rows: &[u64], k: u16) -> Row
+    requires { ⌜ (1 ≤ k) × (2 * k ≤ length (now rows)) ⌝ }
+    ensures { λ r. ⌜ ((s : ℕ) → rowHas r s ≡ (leb s (Machine.nodes (now (m .entry))) && (within 1 128 s && not (rowsHas (now (rows .entry)) (k - 1) s)))) ⌝ }
+{
     let all = structure::node_row(machine::nodes(m));
-    let t = automata::chain_length(r, x);
-    let allow = product::allow_table(r, rows, all, j, x, t);
-    let goods = product::good_table(r, all, x, t, exchanged);
-    let lasting = trim(&allow, next, back, t as usize, goods);
-    let reached = grow(&allow, back, t as usize, lasting);
-    let found = reached.rows;
-    load(&found, 0)
+    all.difference(line_row(rows, k as usize))
+}
+
+// The nodes that the row of line i or that of line k has.
+pub fn either_row(m: &[u16], rows: &[u64], i: u16, k: u16) -> Row
+    requires { ⌜ ((1 ≤ i) × (2 * i ≤ length (now rows))) × ((1 ≤ k) × (2 * k ≤ length (now rows))) ⌝ }
+    ensures { λ r. ⌜ ((s : ℕ) → rowHas r s ≡ (leb s (Machine.nodes (now (m .entry))) && (within 1 128 s && (rowsHas (now (rows .entry)) (i - 1) s || rowsHas (now (rows .entry)) (k - 1) s)))) ⌝ }
+{
+    let all = structure::node_row(machine::nodes(m));
+    let some = line_row(rows, i as usize).union(line_row(rows, k as usize));
+    all.intersection(some)
+}
+
+// The row of line j.
+pub fn row_of_line(
+    m: &[u16],
+    r: &[u16],
+    next: &[u64; 512],
+    back: &[u64; 512],
+    rows: &[u64],
+    j: u16,
+) -> Row
+    requires { ⌜ (Ready (now m) (now r) (now next) (now back)) × ((1 ≤ j) × ((j ≤ Rules.lines (now r)) × (2 * (j - 1) ≤ length (now rows)))) ⌝ }
+    ensures { λ row. ⌜ LineRow (now (m .entry)) (now (r .entry)) (now (rows .entry)) j (rowHas row) ⌝ }
+{
+    let decoded = decode(r, j);
+    let Decoded::Formed(line) = decoded else {
+        return Row::empty();
+    };
+    match line {
+        Line::Signal(i) => structure::signal_row(m, i),
+        Line::Negation(k) => negation_row(m, rows, k),
+        Line::Either(i, k) => either_row(m, rows, i, k),
+        Line::SomePath(x) => path_row(m, r, next, back, rows, j, x, false),
+        Line::SomePathNot(x) => path_row(m, r, next, back, rows, j, x, true),
+    }
 }

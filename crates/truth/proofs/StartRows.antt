@@ -1,0 +1,65 @@
+-- Whether the start nodes are all in a row: by the row of the start nodes that the code makes, and what it says of the last line.
+use mathlib.Core.Path.{_≡_, sym, subst}
+use mathlib.Core.Logic.{_↔_}
+use Prim.Native.Nat.{ℕ, _≤_}
+use native.Mathlib.Omega.{arith}
+use mathlib.Core.List.{List}
+use mathlib.Core.Bool.{Bool, not, _&&_}
+use lib.Dec.{T, T-not, not-T, leb, eqb}
+use borrow.Author.Tests.{le-leb}
+use Rattle.sheets.specs.Words.{within, each}
+use Rattle.sheets.specs.Machine.{nodes, startFlag, kripke}
+use Rattle.sheets.specs.Rules.{lent, lines}
+use Rattle.sheets.proofs.Tests.{and-left, and-right, and-both, surely}
+use Rattle.sheets.proofs.Search.{within-in, each-at, each-in}
+use Rattle.sheets.proofs.AcceptedMachine.{start-node}
+use Rattle.truth.specs.Truth.{Keeps}
+use Rattle.truth.specs.Labelling.{StartsIn, Rows, rowBit}
+
+module _ (M : List ℕ) (small : nodes M ≤ 128) where
+  abbrev startTest : ℕ → Bool
+  startTest s = leb s (nodes M) && (within 1 128 s && eqb (startFlag M s) 1)
+
+  start-tested : (s : ℕ) → T (kripke M .start s) → T (startTest s)
+  unfolding kripke
+  start-tested s t =
+      let h = start-node M s t in
+      and-both (leb s (nodes M)) _ (subst T (sym (le-leb s (nodes M) (h .1))) tt)
+      (and-both (within 1 128 s) (eqb (startFlag M s) 1) (within-in 1 128 s (h .0) (omega arith)) (and-right (within 1 (nodes M) s) (eqb (startFlag M s) 1) t))
+
+  tested-start : (s : ℕ) → 1 ≤ s → T (startTest s) → T (kripke M .start s)
+  unfolding kripke within
+  tested-start s lo t =
+      let flag = eqb (startFlag M s) 1 in
+      and-both (within 1 (nodes M) s) flag
+      (and-both (leb 1 s) (leb s (nodes M)) (subst T (sym (le-leb 1 s lo)) tt) (and-left (leb s (nodes M)) (within 1 128 s && flag) t))
+      (and-right (within 1 128 s) flag (and-right (leb s (nodes M)) (within 1 128 s && flag) t))
+
+  -- a row with the start nodes that `last` has not, and whether it is empty
+  pub starts-in : (start last left : ℕ → Bool) (b : Bool) → ((s : ℕ) → start s ≡ startTest s) → ((s : ℕ) → left s ≡ (start s && not (last s)))
+      → b ≡ each 128 (λ s. not (left s)) → T b ↔ StartsIn M last
+  unfolding StartsIn
+  starts-in start last left b starts lefts e = (
+    λ t s k.
+        let h = start-node M s k in
+        surely (last s) (λ n.
+        T-not (left s) (each-at 128 (λ s. not (left s)) (subst T e t) s (h .0) (omega arith))
+        (subst T (sym (lefts s)) (and-both (start s) (not (last s)) (subst T (sym (starts s)) (start-tested s k)) n))),
+    λ f. subst T (sym e) (each-in 128 (λ s. not (left s)) (λ s lo hi.
+        not-T (left s) (λ l.
+        let t = subst T (lefts s) l in
+        T-not (last s) (and-right (start s) (not (last s)) t) (f s (tested-start s lo (subst T (starts s) (and-left (start s) (not (last s)) t))))))),
+  )
+
+-- the start nodes are all in the last row where the machine keeps the rule
+pub keeps-last : (M R before after : List ℕ) → Rows M R before after → 1 ≤ lines R → (last : ℕ → Bool)
+    → ((s : ℕ) → 1 ≤ s → s ≤ nodes M → rowBit after (lines R) s ≡ last s) → StartsIn M last ↔ Keeps lent M R
+unfolding StartsIn Keeps
+keeps-last M R before after rows some last same = (
+  λ f s k.
+      let h = start-node M s k in
+      rows .truth (lines R) s some (omega arith) (h .0) (h .1) .0 (subst T (sym (same s (h .0) (h .1))) (f s k)),
+  λ f s k.
+      let h = start-node M s k in
+      subst T (same s (h .0) (h .1)) (rows .truth (lines R) s some (omega arith) (h .0) (h .1) .1 (f s k)),
+)

@@ -1,0 +1,23 @@
+-- `keeps` meets its contract: no start node is outside the row, since the start nodes are among 1 to 128.
+use Rattle.truth.specs.Rows.{rowHas}
+use Rattle.truth.proofs.StartRows.{starts-in}
+use borrow.Author.Needs.{needs}
+use Rattle.truth.proofs.labelling.keeps.Statement.{statement}
+use Rattle.truth.proofs.labelling.keeps.Tie as tie
+
+start-row-requires : tie.Need-start-row-requires
+start-row-requires c κs = search needs
+
+difference-requires : tie.Need-difference-requires
+difference-requires c κs = search needs
+
+is-empty-requires : tie.Need-is-empty-requires
+is-empty-requires c κs = search needs
+
+returns : tie.Need-returns
+returns c =
+    let a = c .before .before .before .before .args in
+    starts-in (a .m .now) (c .before .before .before .before .pre) (rowHas (c .before .before .start-row .result)) (rowHas (a .last)) (rowHas (c .before .difference .result)) (c .is-empty .result) (c .before .before .start-row .ensures) (c .before .difference .ensures) (c .is-empty .ensures)
+
+pub keeps-spec : {M : Type 1} → statement M
+keeps-spec = tie.close (tie.spec start-row-requires difference-requires is-empty-requires returns)

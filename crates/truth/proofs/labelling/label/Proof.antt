@@ -1,0 +1,96 @@
+-- `label` meets its contract: the first "no" of the table refuses, and where none does, the last row answers.
+use mathlib.Core.Path.{sym, _∙_}
+use Prim.Native.Nat.{_+_, _-_, _*_, _^_, _<_}
+use native.Mathlib.Omega.{arith}
+use lib.ListN.{length}
+use Rattle.sheets.specs.Rules.{lent}
+use Rattle.sheets.proofs.AcceptedMachine.{nodes-sized}
+use Rattle.sheets.proofs.AcceptedRule.{some-line}
+use Rattle.truth.specs.Rows.{rowHas}
+use Rattle.truth.proofs.LabelTable.{machine-accepted, rules-accepted, space-enough}
+use Rattle.truth.proofs.LabelCounts.{tally-most}
+use Rattle.truth.proofs.LabelAnswers.{refused, done}
+use borrow.Author.Needs.{needs}
+use Rattle.truth.proofs.labelling.label.Statement.{statement}
+use Rattle.truth.proofs.labelling.label.Tie as tie
+
+label-refusal-requires : tie.Need-label-refusal-requires
+label-refusal-requires c κs = search needs
+
+sheet-of-requires : tie.Need-sheet-of-requires
+sheet-of-requires c κs = search needs
+
+returns : tie.Need-returns
+returns c =
+    let a = c .before .before .before .before .before .before .args in
+    refused (a .m .now) (a .r .now) (a .rows .now) _ (c .before .before .label-refusal .ensures) _ (c .before .if1 .taken) (c .sheet-of .ensures)
+
+label-lines-requires : tie.Need-label-lines-requires
+label-lines-requires c κs =
+    let a = c .before .before .before .before .before .before .args in
+    let e = sym (c .before .if1 .left) ∙ c .before .before .label-refusal .ensures in
+    (machine-accepted (a .m .now) (a .r .now) (length (a .rows .now)) e, (rules-accepted (a .m .now) (a .r .now) (length (a .rows .now)) e, space-enough (a .m .now) (a .r .now) (length (a .rows .now)) e))
+
+lines-requires : tie.Need-lines-requires
+lines-requires c κs = search needs
+
+cast-line-row : tie.Need-cast-line-row
+cast-line-row c = search needs
+
+line-row-requires : tie.Need-line-row-requires
+line-row-requires c κs =
+    let a = c .before .before .before .before .before .before .before .before .before .before .before .args in
+    let e = sym (c .before .before .before .before .before .before .if1 .left) ∙ c .before .before .before .before .before .before .before .label-refusal .ensures in
+    let some = some-line lent (a .r .now) (rules-accepted (a .m .now) (a .r .now) (length (a .rows .now)) e) in
+    let room = space-enough (a .m .now) (a .r .now) (length (a .rows .now)) e in
+    (omega (arith, c .lines .ensures), omega (arith, c .lines .ensures, c .before .before .before .before .label-lines .ensures .size))
+
+count-requires : tie.Need-count-requires
+count-requires c κs = search needs
+
+keeps-requires : tie.Need-keeps-requires
+keeps-requires c κs =
+    let a = c .before .before .before .before .before .before .before .before .before .before .before .before .before .args in
+    let e = sym (c .before .before .before .before .before .before .before .before .if1 .left) ∙ c .before .before .before .before .before .before .before .before .before .label-refusal .ensures in
+    nodes-sized (a .m .now) (machine-accepted (a .m .now) (a .r .now) (length (a .rows .now)) e) .1
+
+nodes-requires : tie.Need-nodes-requires
+nodes-requires c κs = search needs
+
+percent-requires : tie.Need-percent-requires
+percent-requires c κs =
+    let a = c .before .before .before .before .before .before .before .before .before .before .before .before .before .before .before .args in
+    let e = sym (c .before .before .before .before .before .before .before .before .before .before .if1 .left) ∙ c .before .before .before .before .before .before .before .before .before .before .before .label-refusal .ensures in
+    let sized = nodes-sized (a .m .now) (machine-accepted (a .m .now) (a .r .now) (length (a .rows .now)) e) in
+    (rw (c .before .before .count .ensures) (tally-most 128 (rowHas (c .before .before .before .line-row .result))), omega (arith, c .nodes .ensures))
+
+same-length : tie.Need-same-length
+same-length c = search needs
+
+returns-2 : tie.Need-returns-2
+returns-2 c =
+    let a = c .before .before .before .before .before .before .before .before .before .before .before .before .before .before .before .before .args in
+    let row = c .before .before .before .before .line-row in
+    let i = 2 * (c .before .before .before .before .before .lines .result - 1) in
+    let below = c .before .before .before .before .before .before .before .slice-known2 .given in
+    let lo : row .result .low < 2 ^ 64 = omega (arith, row .ensures .0, below i) in
+    let hi : row .result .high < 2 ^ 64 = omega (arith, row .ensures .1, below (i + 1)) in
+    done (a .m .now) (a .r .now) (a .rows .now) _ (c .before .before .before .before .before .before .before .before .before .before .before .before .label-refusal .ensures) _ (row .result .low) (row .result .high) _ _ _ _ (c .before .before .before .before .before .before .before .before .before .before .before .if1 .left) (c .before .before .before .before .before .before .before .before .before .label-lines .ensures) (c .before .before .before .before .before .lines .ensures) (row .ensures .0) (row .ensures .1) lo hi (c .before .before .keeps .ensures) (c .before .before .before .count .ensures) (rw (c .before .nodes .ensures) at (c .percent .ensures))
+
+pub label-spec : {M : Type 1} → statement M
+label-spec =
+    tie.close
+    (tie.spec
+    label-refusal-requires
+    sheet-of-requires
+    returns
+    label-lines-requires
+    lines-requires
+    cast-line-row
+    line-row-requires
+    count-requires
+    keeps-requires
+    nodes-requires
+    percent-requires
+    same-length
+    returns-2)

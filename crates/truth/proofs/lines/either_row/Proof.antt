@@ -1,0 +1,48 @@
+-- `either_row` meets its contract: the nodes that are in one of the two lines' rows.
+use mathlib.Core.Path.{_∙_}
+use Prim.Native.Nat.{_-_}
+use mathlib.Core.Bool.{_||_}
+use Rattle.truth.specs.Rows.{rowHas, rowsHas}
+use Rattle.truth.proofs.LineRows.{nodes-passing}
+use borrow.Author.Needs.{needs}
+use Rattle.truth.proofs.lines.either_row.Statement.{statement}
+use Rattle.truth.proofs.lines.either_row.Tie as tie
+
+nodes-requires : tie.Need-nodes-requires
+nodes-requires c κs = search needs
+
+node-row-requires : tie.Need-node-row-requires
+node-row-requires c κs = search needs
+
+line-row-requires : tie.Need-line-row-requires
+line-row-requires c κs = search needs
+
+line-row-requires-2 : tie.Need-line-row-requires-2
+line-row-requires-2 c κs = search needs
+
+union-requires : tie.Need-union-requires
+union-requires c κs = search needs
+
+intersection-requires : tie.Need-intersection-requires
+intersection-requires c κs = search needs
+
+returns : tie.Need-returns
+returns c =
+    let a = c .before .before .before .before .before .before .before .before .args in
+    let e = c .before .before .before .line-row .ensures in
+    let f = c .before .before .line-row2 .ensures in
+    nodes-passing (c .before .before .before .before .before .nodes .ensures) (c .before .before .before .before .node-row .ensures) (rowHas (c .before .union .result))
+    (λ s. rowsHas (a .rows .now) (a .i - 1) s || rowsHas (a .rows .now) (a .k - 1) s) (c .intersection .ensures)
+    (λ s. c .before .union .ensures s ∙ rw (e .0, e .1, f .0, f .1))
+
+pub either-row-spec : {M : Type 1} → statement M
+either-row-spec =
+    tie.close
+    (tie.spec
+    nodes-requires
+    node-row-requires
+    line-row-requires
+    line-row-requires-2
+    union-requires
+    intersection-requires
+    returns)

@@ -1,0 +1,116 @@
+// Labelling: the rows of a whole rule sheet on a machine, whether the rule is kept, and the count and percent of its true nodes.
+ghost use mathlib.Core.Path.{_≡_};
+ghost use mathlib.Core.Logic.{_↔_};
+ghost use Prim.Native.Nat.{ℕ, _+_, _-_, _*_, _<_, _≤_};
+ghost use lib.ListN.{length, getD};
+ghost use lib.Dec.{T};
+ghost use Rattle.sheets.specs.Questions.{firstNo};
+ghost use Rattle.sheets.specs.Machine as Machine;
+ghost use Rattle.sheets.specs.Rules as Rules;
+ghost use Rattle.truth.specs.Truth.{Keeps};
+ghost use Rattle.truth.specs.Rows.{rowHas};
+ghost use Rattle.truth.specs.Labelling as Labelling;
+ghost use Rattle.truth.specs.Answers.{LabelAnswer};
+use crate::lines::row_of_line;
+use crate::rows::Row;
+use crate::structure;
+use crate::tables::line_row;
+use crate::tables::set_line_row;
+use sheets::checks;
+use sheets::machine;
+use sheets::rules;
+
+// The answer: refused by a question, with the number of the machine sheet for questions 1 to 6, or done.
+pub enum Labelled {
+    Refused {
+        question: u16,
+        sheet: u16,
+    },
+    Done {
+        kept: bool,
+        count: u32,
+        percent: u32,
+    },
+}
+
+// The number of the first question of labelling that says no, 0 where none does, for a space of so many words.
+pub fn label_refusal(m: &[u16], r: &[u16], space: usize) -> u16
+    ensures { λ q. ⌜ q ≡ firstNo (Labelling.labelQuestions (now (m .entry)) (now (r .entry)) space) .number ⌝ }
+{
+    let machine = machine::machine_refusal(m);
+    if machine != 0 {
+        return machine;
+    }
+    let rules = checks::rule_refusal(r);
+    if rules != 0 {
+        return rules;
+    }
+    if !sheets::lines::over_signals(r, machine::signals(m)) {
+        return 16;
+    }
+    if space < 2 * (rules::lines(r) as usize) {
+        return 17;
+    }
+    0
+}
+
+// The machine sheet that a question is put to, in a call with one machine sheet.
+pub fn sheet_of(question: u16) -> u16
+    ensures { λ i. ⌜ i ≡ Labelling.sheetOf question ⌝ }
+{
+    if question <= 6 { 1 } else { 0 }
+}
+
+// Writes the row of each line, from the first on.
+pub fn label_lines(m: &[u16], r: &[u16], rows: &mut [u64])
+    requires { ⌜ (Machine.machineRefusal (now m) ≡ 0) × ((Rules.ruleRefusal Rules.lent (now r) ≡ 0) × (2 * Rules.lines (now r) ≤ length (now rows))) ⌝ }
+    ensures { λ u. ⌜ Labelling.Rows (now (m .entry)) (now (r .entry)) (now (rows .entry)) (now (rows .exit)) ⌝ }
+{
+    let next = structure::successors(m);
+    let n = machine::nodes(m);
+    let back = structure::predecessors(&next, n);
+    let l = rules::lines(r);
+    let mut j: u16 = 0;
+    while j < l {
+        j += 1;
+        let row = row_of_line(m, r, &next, &back, rows, j);
+        set_line_row(rows, j as usize, row);
+    }
+}
+
+// Whether the start nodes are all in the row.
+pub fn keeps(m: &[u16], last: Row) -> bool
+    requires { ⌜ Machine.nodes (now m) ≤ 128 ⌝ }
+    ensures { λ b. ⌜ T b ↔ Labelling.StartsIn (now (m .entry)) (rowHas last) ⌝ }
+{
+    structure::start_row(m).difference(last).is_empty()
+}
+
+// The whole percent of c among n, a half rounded up.
+pub fn percent(c: u32, n: u16) -> u32
+    requires { ⌜ (c ≤ 128) × (1 ≤ n) ⌝ }
+    ensures { λ p. ⌜ p ≡ Labelling.percent c n ⌝ }
+{
+    (200 * c + n as u32) / (2 * n as u32)
+}
+
+// Labels every line of the rule sheet r on the machine sheet m, two words of the space a line.
+pub fn label(m: &[u16], r: &[u16], rows: &mut [u64]) -> Labelled
+    ensures { λ a. ⌜ LabelAnswer (now (m .entry)) (now (r .entry)) (now (rows .entry)) (now (rows .exit)) a ⌝ }
+{
+    let question = label_refusal(m, r, rows.len());
+    if question != 0 {
+        return Labelled::Refused {
+            question: question,
+            sheet: sheet_of(question),
+        };
+    }
+    label_lines(m, r, rows);
+    let last = line_row(rows, rules::lines(r) as usize);
+    let count = last.count();
+    Labelled::Done {
+        kept: keeps(m, last),
+        count: count,
+        percent: percent(count, machine::nodes(m)),
+    }
+}
