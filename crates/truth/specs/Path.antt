@@ -1,6 +1,6 @@
 -- The path call: its questions, and what is handed over.
 use mathlib.Core.Path.{_≡_}
-use Prim.Native.Nat.{ℕ, zero, suc, _+_, _-_, _*_, _≤_, _<_}
+use Prim.Native.Nat.{ℕ, zero, suc, _+_, _-_, _*_, min, _≤_, _<_}
 use mathlib.Core.List.{List, [], _∷_, _++_}
 use mathlib.Core.Bool.{Bool, not, _&&_}
 use lib.ListN.{length}
@@ -42,11 +42,15 @@ Shows K A above (somePath x arg) s node state len back = Lasso K (A x) above arg
 Shows K A above (somePathNot x arg) s node state len back = Lasso K (A x) above arg (λ q. not (A x .accepting q)) s node state len back
 Shows K A above malformed s node state len back = ⊥
 
--- `nodes′` and `states′` are the list's two parts after the call; places count from 1
-pub record Shown (M R : List ℕ) (j s : ℕ) (nodesBefore statesBefore nodesAfter statesAfter : List ℕ) (len back : ℕ) : Type 0 where
+-- a path of the asked line from node s: places 1 to `len` of a list whose pair at place i is `node i` and `state i`
+abbrev pub ShowsPath : List ℕ → List ℕ → ℕ → ℕ → (ℕ → ℕ) → (ℕ → ℕ) → ℕ → ℕ → Type 0
+ShowsPath M R j s node state len back = Shows (kripke M) (automaton R) (TrueAt lent M R) (line lent R (asked R j)) s node state len back
+
+-- the two parts of the list before and after the call; places count from 1, and records past the length are as before
+pub record ShownPath (M R : List ℕ) (j s : ℕ) (nodesBefore statesBefore nodesAfter statesAfter : List ℕ) (len back : ℕ) : Type 0 where
   pub size-nodes : length nodesAfter ≡ length nodesBefore
   pub size-states : length statesAfter ≡ length statesBefore
-  pub fits : len ≤ length nodesAfter
-  pub shows : Shows (kripke M) (automaton R) (TrueAt lent M R) (line lent R (asked R j)) s (λ i. word nodesAfter (i - 1)) (λ i. word statesAfter (i - 1)) len back
+  pub fits : len ≤ min (length nodesAfter) (length statesAfter)
+  pub shows : ShowsPath M R j s (λ i. word nodesAfter (i - 1)) (λ i. word statesAfter (i - 1)) len back
   pub rest-nodes : (i : ℕ) → len ≤ i → word nodesAfter i ≡ word nodesBefore i
   pub rest-states : (i : ℕ) → len ≤ i → word statesAfter i ≡ word statesBefore i

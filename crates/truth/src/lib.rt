@@ -7,3 +7,4 @@ pub mod trimming; // trimming.rt: the largest set of pairs each of which has a s
 pub mod growth; // growth.rt: the pairs from which steps lead into a set
 pub mod lines; // lines.rt: the row of one line
 pub mod labelling; // labelling.rt: the rows of a rule sheet, and the answer
+pub mod walk; // walk.rt: a walk through the pairs that shows a path

@@ -17,7 +17,7 @@ use sheets::words;
 use sheets::words::Step;
 
 // The states on automaton x's chain, of which there are t, by position.
-fn chain_states(r: &[u16], x: u16, t: u16) -> [u16; 16]
+pub fn chain_states(r: &[u16], x: u16, t: u16) -> [u16; 16]
     requires { ⌜ (t ≤ 16) × (t ≡ length (Rules.statesOf (now r) x)) ⌝ }
     ensures { λ a. ⌜ ((k : ℕ) → k < t → getD a k 0 ≡ stateAt (now (r .entry)) x k) ⌝ }
 {

@@ -1,0 +1,126 @@
+//! Labelling: the rows of all lines, whether the rule is kept, the number of nodes where its last
+//! line is true, and their whole percent, as the questions 1 to 17 allow it.
+
+use crate::refusal::Refusal;
+use crate::truth::Model;
+
+#[derive(Clone, Copy, Debug, PartialEq, Eq)]
+pub enum Labelling {
+    Refused(Refusal),
+    Done {
+        kept: bool,
+        count: usize,
+        percent: usize,
+    },
+}
+
+/// Labels two sheets. The rows are written as the proved code has to write them; a refusal and
+/// the words past the rows leave the space as it is.
+pub fn label(model: &Result<Model, Refusal>, space: &mut [u64]) -> Labelling {
+    let model = match model {
+        Ok(model) => model,
+        Err(refusal) => return Labelling::Refused(*refusal),
+    };
+    if space.len() < 2 * model.truth.len() {
+        return Labelling::Refused(Refusal::of(17));
+    }
+    for (row, words) in model.truth.iter().zip(space.chunks_exact_mut(2)) {
+        words.copy_from_slice(&row_words(row));
+    }
+    let rule = model.truth.last().map_or(&[][..], |row| row);
+    let count = rule.iter().filter(|&&holds| holds).count();
+    Labelling::Done {
+        kept: model.keeps(),
+        count,
+        percent: percent(count, model.machine.nodes()),
+    }
+}
+
+/// Node s is bit (s - 1) mod 64 of word (s - 1) div 64.
+fn row_words(row: &[bool]) -> [u64; 2] {
+    let mut words = [0; 2];
+    for (node, _) in row.iter().enumerate().filter(|(_, &holds)| holds) {
+        words[node / 64] |= 1 << (node % 64);
+    }
+    words
+}
+
+/// The whole percent of `count` among `nodes`, a half rounded up: the greatest p such that
+/// p - 1/2 percent of the nodes are at most `count`.
+fn percent(count: usize, nodes: usize) -> usize {
+    let reaches = |p: &usize| (2 * p - 1) * nodes <= 200 * count;
+    (1..=100).rev().find(reaches).unwrap_or(0)
+}
+
+#[cfg(test)]
+mod tests {
+    use super::*;
+    use crate::worked;
+
+    #[test]
+    fn marked_case_k_one_of_eight_nodes() {
+        let model = Model::read(&worked::ring_of_eight(), &worked::signal_alone());
+        let mut space = [u64::MAX; 4];
+        let answer = label(&model, &mut space);
+        let expected = Labelling::Done {
+            kept: true,
+            count: 1,
+            percent: 13,
+        };
+        assert_eq!(answer, expected);
+        assert_eq!(space, [1, 0, u64::MAX, u64::MAX]);
+    }
+
+    #[test]
+    fn percents_round_a_half_up() {
+        let cases = [
+            (0, 1, 0),
+            (1, 1, 100),
+            (1, 2, 50),
+            (1, 3, 33),
+            (2, 3, 67),
+            (1, 8, 13),
+            (3, 8, 38),
+            (1, 128, 1),
+            (127, 128, 99),
+            (128, 128, 100),
+            (5, 40, 13),
+            (49, 100, 49),
+        ];
+        for (count, nodes, expected) in cases {
+            assert_eq!(percent(count, nodes), expected, "{count} of {nodes}");
+        }
+    }
+
+    #[test]
+    fn even_on_m3_is_kept() {
+        let model = Model::read(&worked::m3(), &worked::even());
+        let mut space = [7; 5];
+        let answer = label(&model, &mut space);
+        let expected = Labelling::Done {
+            kept: true,
+            count: 1,
+            percent: 50,
+        };
+        assert_eq!(answer, expected);
+        assert_eq!(space, [1, 0, 1, 0, 7]);
+    }
+
+    #[test]
+    fn a_space_one_word_short_is_refused_and_left_alone() {
+        let model = Model::read(&worked::m3(), &worked::even());
+        let mut space = [7; 3];
+        let answer = label(&model, &mut space);
+        assert_eq!(answer, Labelling::Refused(Refusal::of(17)));
+        assert_eq!(space, [7; 3]);
+    }
+
+    #[test]
+    fn high_nodes_stand_in_the_second_word() {
+        let mut row = vec![false; 128];
+        row[63] = true;
+        row[64] = true;
+        row[127] = true;
+        assert_eq!(row_words(&row), [1 << 63, 1 << 63 | 1]);
+    }
+}

@@ -1,0 +1,62 @@
+//! The proved functions, as the static library exports them: C calls, where a slice is handed
+//! over as its first word's address and its length. All unsafe code of the package is here.
+
+use checker::labelling::Labelling;
+use checker::refusal::Refusal;
+
+extern "C" {
+    fn toqshenay_check_machine(words: *const u16, length: usize) -> u16;
+    fn toqshenay_check_rules(words: *const u16, length: usize) -> u16;
+    fn toqshenay_label(
+        machine: *const u16,
+        machine_length: usize,
+        rules: *const u16,
+        rules_length: usize,
+        rows: *mut u64,
+        rows_length: usize,
+        sheet: *mut u16,
+        kept: *mut u16,
+        count: *mut u32,
+        percent: *mut u32,
+    ) -> u16;
+}
+
+/// 0 if the questions 1 to 6 accept the sheet, else the number of the one that refuses it.
+pub fn check_machine(words: &[u16]) -> u16 {
+    // SAFETY: the address and the length are those of a slice that lives through the call.
+    unsafe { toqshenay_check_machine(words.as_ptr(), words.len()) }
+}
+
+/// 0 if the questions 7 to 15 accept the sheet, else the number of the one that refuses it.
+pub fn check_rules(words: &[u16]) -> u16 {
+    // SAFETY: the address and the length are those of a slice that lives through the call.
+    unsafe { toqshenay_check_rules(words.as_ptr(), words.len()) }
+}
+
+/// Labels the rules on the machine; the rows go to the space.
+pub fn label(machine: &[u16], rules: &[u16], rows: &mut [u64]) -> Labelling {
+    let (mut sheet, mut kept, mut count, mut percent) = (0, 0, 0, 0);
+    // SAFETY: addresses and lengths are those of slices and numbers that live through the call.
+    let question = unsafe {
+        toqshenay_label(
+            machine.as_ptr(),
+            machine.len(),
+            rules.as_ptr(),
+            rules.len(),
+            rows.as_mut_ptr(),
+            rows.len(),
+            &mut sheet,
+            &mut kept,
+            &mut count,
+            &mut percent,
+        )
+    };
+    match question {
+        0 => Labelling::Done {
+            kept: kept == 1,
+            count: count as usize,
+            percent: percent as usize,
+        },
+        _ => Labelling::Refused(Refusal { question, sheet }),
+    }
+}

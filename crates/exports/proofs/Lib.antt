@@ -1,0 +1,2 @@
+-- What holds of exports.
+pub mod LabelNumbers

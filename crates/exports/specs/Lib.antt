@@ -1,0 +1,2 @@
+-- The definitions of exports: answers as numbers.
+pub mod Numbers

@@ -1,0 +1,71 @@
+// The proved code for C and Rust: functions over numbers and slices. A slice passes as a pointer and a length.
+ghost use mathlib.Core.Path.{_≡_};
+ghost use Rattle.sheets.specs.Machine.{machineRefusal};
+ghost use Rattle.sheets.specs.Rules.{lent, ruleRefusal};
+ghost use Rattle.truth.specs.Answers.{LabelAnswer};
+ghost use Rattle.exports.specs.Numbers.{labelled};
+use sheets::checks;
+use sheets::checks::Check;
+use truth::labelling;
+use truth::labelling::Labelled;
+
+// The question that refuses a machine sheet, 0 where it is accepted.
+#[no_mangle]
+pub extern "C" fn toqshenay_check_machine(m: &[u16]) -> u16
+    ensures { λ r. ⌜ r ≡ machineRefusal (now (m .entry)) ⌝ }
+{
+    let answer = checks::check_machine(m);
+    match answer {
+        Check::Accepted => 0,
+        Check::Refused { question, sheet: _ } => question,
+    }
+}
+
+// The question that refuses a rule sheet, 0 where it is accepted.
+#[no_mangle]
+pub extern "C" fn toqshenay_check_rules(r: &[u16]) -> u16
+    ensures { λ q. ⌜ q ≡ ruleRefusal lent (now (r .entry)) ⌝ }
+{
+    let answer = checks::check_rules(r);
+    match answer {
+        Check::Accepted => 0,
+        Check::Refused { question, sheet: _ } => question,
+    }
+}
+
+// Labelling: the rows go to the lent space, two words a line. The question that refuses, and its sheet, or 0; then whether the rule
+// is kept, the number of true nodes of the last line, and its percent among the nodes.
+#[no_mangle]
+pub extern "C" fn toqshenay_label(
+    m: &[u16],
+    r: &[u16],
+    rows: &mut [u64],
+    sheet: &mut u16,
+    kept: &mut u16,
+    count: &mut u32,
+    percent: &mut u32,
+) -> u16
+    ensures { λ q. ⌜ LabelAnswer (now (m .entry)) (now (r .entry)) (now (rows .entry)) (now (rows .exit)) (labelled q (now (sheet .exit)) (now (kept .exit)) (now (count .exit)) (now (percent .exit))) ⌝ }
+{
+    let answer = labelling::label(m, r, rows);
+    match answer {
+        Labelled::Refused { question, sheet: s } => {
+            *sheet = s;
+            *kept = 0;
+            *count = 0;
+            *percent = 0;
+            question
+        }
+        Labelled::Done {
+            kept: k,
+            count: c,
+            percent: p,
+        } => {
+            *sheet = 0;
+            *kept = k as u16;
+            *count = c;
+            *percent = p;
+            0
+        }
+    }
+}
