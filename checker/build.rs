@@ -1,4 +1,4 @@
-//! Links the static library of the proved code to the integration tests, and to nothing else:
+//! Links the static library of the proved code to the integration tests and benchmarks, and to nothing else:
 //! the package itself and its unit tests stand without it.
 //!
 //! `rt staticlib exports`, run in the repository root, writes the archive. The environment
@@ -19,6 +19,7 @@ fn main() {
         );
     }
     println!("cargo:rustc-link-arg-tests={}", archive.display());
+    println!("cargo:rustc-link-arg-benches={}", archive.display());
 }
 
 fn directory(package: &str) -> PathBuf {
