@@ -8,3 +8,4 @@ pub mod growth; // growth.rt: the pairs from which steps lead into a set
 pub mod lines; // lines.rt: the row of one line
 pub mod labelling; // labelling.rt: the rows of a rule sheet, and the answer
 pub mod walk; // walk.rt: a walk through the pairs that shows a path
+pub mod header; // header.rt: what the crate above asks of a machine sheet
