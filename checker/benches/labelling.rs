@@ -2,7 +2,6 @@
 //! code beside the checker's own labelling, in one run. The spaces are dirty; nothing is cleared first.
 
 #[path = "../tests/exports/mod.rs"]
-#[allow(dead_code)]
 mod exports;
 
 use checker::labelling;

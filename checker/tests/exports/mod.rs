@@ -1,6 +1,9 @@
 //! The proved functions, as the static library exports them: C calls, where a slice is handed
 //! over as its first word's address and its length. All unsafe code of the package is here.
 
+// Each test file calls its own part of these.
+#![allow(dead_code)]
+
 use checker::labelling::Labelling;
 use checker::refusal::Refusal;
 
