@@ -35,7 +35,7 @@ module _ (M R next back rows : List ℕ) (j x : ℕ) (path : PathReady M R next 
   nodes-few : nodes M ≤ 128
   nodes-few = nodes-sized M (path .ready .machine) .1
 
-  stays-in : Stays (nodes M) next
+  pub stays-in : Stays (nodes M) next
   stays-in s u lo hi e =
       let t = and-right (within 1 128 u) (kripke M .edge s u) (rw (path .ready .successors s u lo hi) at e) in
       edge-stays M (path .ready .machine) s lo hi u t .1

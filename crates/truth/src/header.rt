@@ -1,7 +1,6 @@
 // What the crate above asks of a machine sheet: the question that refuses it, its nodes, its signals.
 ghost use mathlib.Core.Path.{_≡_};
 ghost use Rattle.sheets.specs.Machine as Machine;
-
 use sheets::machine;
 
 // The number of the machine question that refuses the sheet, 0 if none does.

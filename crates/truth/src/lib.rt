@@ -9,3 +9,4 @@ pub mod lines; // lines.rt: the row of one line
 pub mod labelling; // labelling.rt: the rows of a rule sheet, and the answer
 pub mod walk; // walk.rt: a walk through the pairs that shows a path
 pub mod header; // header.rt: what the crate above asks of a machine sheet
+pub mod path; // path.rt: the path call

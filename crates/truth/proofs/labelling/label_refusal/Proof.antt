@@ -1,8 +1,12 @@
 -- `label_refusal` meets its contract, by the parts of the table: the machine, the rule, the signals, the space.
 use mathlib.Core.Path.{sym, _∙_}
+use Prim.Native.Nat.{_*_}
 use native.Mathlib.Omega.{arith}
-use borrow.Author.Tests.{not-true, not-false}
-use Rattle.truth.proofs.LabelTable.{by-machine, by-rules, by-signals, by-space, by-none}
+use borrow.Author.Tests.{not-true, not-false, le-leb, lt-leb}
+use Rattle.sheets.specs.Rules.{lines}
+use Rattle.sheets.proofs.Questions.{none, yes, no}
+use Rattle.truth.specs.Labelling.{labelQuestions}
+use Rattle.truth.proofs.LabelTable.{spaceQuestion, by-machine, by-rules, by-signals, by-last}
 use borrow.Author.Needs.{needs}
 use Rattle.truth.proofs.labelling.label_refusal.Statement.{statement}
 use Rattle.truth.proofs.labelling.label_refusal.Tie as tie
@@ -11,17 +15,19 @@ machine-refusal-requires : tie.Need-machine-refusal-requires
 machine-refusal-requires c κs = search needs
 
 returns : tie.Need-returns
+unfolding labelQuestions
 returns c =
     let a = c .before .before .before .before .args in
-    by-machine (a .m .now) (a .r .now) (a .space) _ (c .before .machine-refusal .ensures) (c .if1 .taken)
+    by-machine (a .m .now) (a .r .now) (spaceQuestion (a .r .now) (a .space)) _ (c .before .machine-refusal .ensures) (c .if1 .taken)
 
 rule-refusal-requires : tie.Need-rule-refusal-requires
 rule-refusal-requires c κs = search needs
 
 returns-2 : tie.Need-returns-2
+unfolding labelQuestions
 returns-2 c =
     let a = c .before .before .before .before .before .before .args in
-    by-rules (a .m .now) (a .r .now) (a .space) _ (c .before .before .before .machine-refusal .ensures) (c .before .before .if1 .left) _ (c .before .rule-refusal .ensures) (c .if2 .taken)
+    by-rules (a .m .now) (a .r .now) (spaceQuestion (a .r .now) (a .space)) _ (c .before .before .before .machine-refusal .ensures) (c .before .before .if1 .left) _ (c .before .rule-refusal .ensures) (c .if2 .taken)
 
 signals-requires : tie.Need-signals-requires
 signals-requires c κs = search needs
@@ -30,9 +36,10 @@ over-signals-requires : tie.Need-over-signals-requires
 over-signals-requires c κs = search needs
 
 returns-3 : tie.Need-returns-3
+unfolding labelQuestions
 returns-3 c =
     let a = c .before .before .before .before .before .before .before .before .before .args in
-    by-signals (a .m .now) (a .r .now) (a .space) _ (c .before .before .before .before .before .before .machine-refusal .ensures) (c .before .before .before .before .before .if1 .left) _ (c .before .before .before .before .rule-refusal .ensures) (c .before .before .before .if2 .left) (rw (c .before .before .signals .ensures) at (sym (c .before .over-signals .ensures)) ∙ not-true _ (c .if3 .taken))
+    by-signals (a .m .now) (a .r .now) (spaceQuestion (a .r .now) (a .space)) _ (c .before .before .before .before .before .before .machine-refusal .ensures) (c .before .before .before .before .before .if1 .left) _ (c .before .before .before .before .rule-refusal .ensures) (c .before .before .before .if2 .left) (rw (c .before .before .signals .ensures) at (sym (c .before .over-signals .ensures)) ∙ not-true _ (c .if3 .taken))
 
 lines-requires : tie.Need-lines-requires
 lines-requires c κs = search needs
@@ -44,14 +51,16 @@ mul-if4 : tie.Need-mul-if4
 mul-if4 c = search needs
 
 returns-4 : tie.Need-returns-4
+unfolding labelQuestions
 returns-4 c =
     let a = c .before .before .before .before .before .before .before .before .before .before .before .args in
-    by-space (a .m .now) (a .r .now) (a .space) _ (c .before .before .before .before .before .before .before .before .machine-refusal .ensures) (c .before .before .before .before .before .before .before .if1 .left) _ (c .before .before .before .before .before .before .rule-refusal .ensures) (c .before .before .before .before .before .if2 .left) (rw (c .before .before .before .before .signals .ensures) at (sym (c .before .before .before .over-signals .ensures)) ∙ not-false _ (c .before .before .if3 .left)) (omega (arith, c .before .lines .ensures))
+    by-last (a .m .now) (a .r .now) (spaceQuestion (a .r .now) (a .space)) _ (c .before .before .before .before .before .before .before .before .machine-refusal .ensures) (c .before .before .before .before .before .before .before .if1 .left) _ (c .before .before .before .before .before .before .rule-refusal .ensures) (c .before .before .before .before .before .if2 .left) (rw (c .before .before .before .before .signals .ensures) at (sym (c .before .before .before .over-signals .ensures)) ∙ not-false _ (c .before .before .if3 .left)) _ (no (lt-leb (2 * lines (a .r .now)) (a .space) (omega (arith, c .before .lines .ensures))))
 
 returns-5 : tie.Need-returns-5
+unfolding labelQuestions
 returns-5 c =
     let a = c .before .before .before .before .before .before .before .before .before .before .before .args in
-    by-none (a .m .now) (a .r .now) (a .space) _ (c .before .before .before .before .before .before .before .before .machine-refusal .ensures) (c .before .before .before .before .before .before .before .if1 .left) _ (c .before .before .before .before .before .before .rule-refusal .ensures) (c .before .before .before .before .before .if2 .left) (rw (c .before .before .before .before .signals .ensures) at (sym (c .before .before .before .over-signals .ensures)) ∙ not-false _ (c .before .before .if3 .left)) (omega (arith, c .before .lines .ensures))
+    by-last (a .m .now) (a .r .now) (spaceQuestion (a .r .now) (a .space)) _ (c .before .before .before .before .before .before .before .before .machine-refusal .ensures) (c .before .before .before .before .before .before .before .if1 .left) _ (c .before .before .before .before .before .before .rule-refusal .ensures) (c .before .before .before .before .before .if2 .left) (rw (c .before .before .before .before .signals .ensures) at (sym (c .before .before .before .over-signals .ensures)) ∙ not-false _ (c .before .before .if3 .left)) _ (yes (le-leb (2 * lines (a .r .now)) (a .space) (omega (arith, c .before .lines .ensures))) none)
 
 pub label-refusal-spec : {M : Type 1} → statement M
 label-refusal-spec =

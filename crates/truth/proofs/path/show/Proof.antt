@@ -1,0 +1,71 @@
+-- `show` meets its contract: the solved tables can be walked, and the walk, its positions named, is the list.
+use borrow.Author.Needs.{needs}
+use native.Mathlib.Omega.{arith}
+use Rattle.truth.proofs.PathRows.{states-few}
+use Rattle.truth.proofs.ShownLines.{walkable, list-fits, shows-line}
+use Rattle.truth.proofs.path.show.Statement.{statement}
+use Rattle.truth.proofs.path.show.Tie as tie
+
+solve-requires : tie.Need-solve-requires
+solve-requires c κs = search needs
+
+chain-length-requires : tie.Need-chain-length-requires
+chain-length-requires c κs = search needs
+
+nodes-requires : tie.Need-nodes-requires
+nodes-requires c κs = search needs
+
+cast-walk : tie.Need-cast-walk
+cast-walk c = search needs
+
+walk-requires : tie.Need-walk-requires
+walk-requires c κs =
+    let counted = c .before .before .before .before .before .before .before .before in
+    let start = counted .before .before .before .before .before .before in
+    let a = start .args in
+    walkable (a .m .now) (a .r .now) (a .next .now) (a .back .now) (a .rows .now) (a .j) (a .x) (start .pre .0) (a .exchanged) _ _ _ _ (counted .before .before .solve .ensures)
+    (a .s) (start .pre .1 .0) (start .pre .1 .1 .0) _ _ (counted .before .chain-length .ensures) (counted .nodes .ensures) (start .pre .1 .1 .1)
+
+chain-states-requires : tie.Need-chain-states-requires
+chain-states-requires c κs =
+    let counted = c .before .before .before .before .before .before .before .before .before .before in
+    let start = counted .before .before .before .before .before .before in
+    let a = start .args in
+    let few = states-few (a .m .now) (a .r .now) (a .next .now) (a .back .now) (a .rows .now) (a .j) (a .x) (start .pre .0) in
+    let chained = counted .before .chain-length .ensures in
+    (omega arith, chained)
+
+named-requires : tie.Need-named-requires
+named-requires c κs =
+    let counted = c .before .before .before .before .before .before .before .before .before .before .before in
+    let start = counted .before .before .before .before .before .before in
+    let a = start .args in
+    let walk = c .before .before .walk in
+    list-fits (a .m .now) (a .r .now) (a .next .now) (a .back .now) (a .rows .now) (a .j) (a .x) (start .pre .0) (a .exchanged) _ _ _ _ (counted .before .before .solve .ensures)
+    (a .s) (start .pre .1 .0) (start .pre .1 .1 .0) _ _ (counted .before .chain-length .ensures) (counted .nodes .ensures)
+    (walk .result .nodes) (walk .result .positions) _ _ (walk .ensures)
+
+returns : tie.Need-returns
+returns c =
+    let counted = c .before .before .before .before .before .before .before .before .before .before .before .before .before in
+    let start = counted .before .before .before .before .before .before in
+    let a = start .args in
+    let walk = c .before .before .before .before .walk in
+    let chain = c .before .before .chain-states in
+    let named = c .before .named in
+    shows-line (a .m .now) (a .r .now) (a .next .now) (a .back .now) (a .rows .now) (a .j) (a .x) (start .pre .0) (a .exchanged) _ _ _ _ (counted .before .before .solve .ensures)
+    (a .s) (start .pre .1 .0) (start .pre .1 .1 .0) _ _ (counted .before .chain-length .ensures) (counted .nodes .ensures)
+    (walk .result .nodes) (walk .result .positions) _ _ (walk .ensures) (chain .result) (named .result) (chain .ensures) (named .ensures)
+
+pub show-spec : {M : Type 1} → statement M
+show-spec =
+    tie.close
+    (tie.spec
+    solve-requires
+    chain-length-requires
+    nodes-requires
+    cast-walk
+    walk-requires
+    chain-states-requires
+    named-requires
+    returns)

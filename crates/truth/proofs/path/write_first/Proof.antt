@@ -1,0 +1,88 @@
+-- `write_first` meets its contract. The loop's invariant: the first i numbers are written over those of the list, and the rest is as it was.
+-- The measure is what is left of the count.
+use mathlib.Core.Path.{_≡_, refl, ap, _∙_}
+use Prim.Native.Nat.{_-_, _≤_}
+use native.Mathlib.Omega.{arith}
+use mathlib.Core.List.{_++_}
+use lib.ListN.{length, take, drop}
+use Rattle.truth.proofs.WrittenLists.{written-length, written-next}
+use borrow.Author.Needs.{needs}
+use Rattle.truth.proofs.path.write_first.Statement.{statement}
+use Rattle.truth.proofs.path.write_first.Tie as tie
+
+abbrev Inv-loop : tie.InvT-loop
+Inv-loop list₀ count from i₀ list i = (i ≤ count) × (list ≡ take i from ++ drop i list₀)
+
+abbrev μ-loop : tie.MeasureT-loop
+μ-loop list₀ count from i₀ list i = count - i
+
+loop-holds : tie.Need-loop-holds Inv-loop μ-loop
+loop-holds c = (search needs, refl)
+
+cast-list : tie.Need-cast-list Inv-loop μ-loop
+cast-list c = search needs
+
+mul-list : tie.Need-mul-list Inv-loop μ-loop
+mul-list c = search needs
+
+array-read-list : tie.Need-array-read-list Inv-loop μ-loop
+array-read-list c = search needs
+
+cast-list-2 : tie.Need-cast-list-2 Inv-loop μ-loop
+cast-list-2 c = search needs
+
+mul-list-2 : tie.Need-mul-list-2 Inv-loop μ-loop
+mul-list-2 c = search needs
+
+slice-write-list : tie.Need-slice-write-list Inv-loop μ-loop
+slice-write-list c =
+    let a = c .before .before .args in
+    let l = c .before .loop in
+    let size : length (a .t2) ≡ 2048 = search needs in
+    omega (arith, ap length (l .inv .1), written-length (a .t2) (a .list .now) (l .i) (omega arith) (omega arith))
+
+add-i : tie.Need-add-i Inv-loop μ-loop
+add-i c = search needs
+
+loop-less : tie.Need-loop-less Inv-loop μ-loop
+loop-less c = search needs
+
+loop-again : tie.Need-loop-again Inv-loop μ-loop
+loop-again c =
+    let a = c .before .before .args in
+    let l = c .before .loop in
+    let size : length (a .t2) ≡ 2048 = search needs in
+    (search needs, written-next (a .t2) (a .list .now) (l .list) (l .i) (omega arith) (omega arith) (l .inv .1))
+
+same-length : tie.Need-same-length Inv-loop μ-loop
+same-length c =
+    let a = c .before .before .args in
+    let l = c .before .loop in
+    let size : length (a .t2) ≡ 2048 = search needs in
+    ap length (l .inv .1) ∙ written-length (a .t2) (a .list .now) (l .i) (omega arith) (omega arith)
+
+returns : tie.Need-returns Inv-loop μ-loop
+returns c =
+    let a = c .before .before .args in
+    let l = c .before .loop in
+    let e : l .i ≡ a .count = omega arith in
+    rw e at (l .inv .1)
+
+pub write-first-spec : {M : Type 1} → statement M
+write-first-spec =
+    tie.close
+    (tie.spec
+    Inv-loop
+    μ-loop
+    loop-holds
+    cast-list
+    mul-list
+    array-read-list
+    cast-list-2
+    mul-list-2
+    slice-write-list
+    add-i
+    loop-less
+    loop-again
+    same-length
+    returns)

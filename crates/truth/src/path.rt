@@ -1,0 +1,236 @@
+// The path call: a list of nodes and states that shows a path for a true path line at a node.
+ghost use mathlib.Core.Path.{_≡_};
+ghost use Prim.Native.Nat.{ℕ, _+_, _-_, _*_, min, _<_, _≤_};
+ghost use mathlib.Core.List.{_++_};
+ghost use lib.ListN.{length, getD, take, drop};
+ghost use Rattle.sheets.specs.Questions.{firstNo};
+ghost use Rattle.sheets.specs.Machine as Machine;
+ghost use Rattle.sheets.specs.Rules as Rules;
+ghost use Rattle.truth.specs.OneLine.{PathReady};
+ghost use Rattle.truth.specs.Rows.{rowsHas};
+ghost use Rattle.truth.specs.Product.{good, stateAt};
+ghost use Rattle.truth.specs.Lists.{Lasso};
+ghost use Rattle.truth.specs.Walked.{placed};
+ghost use Rattle.truth.specs.Path as Path;
+ghost use Rattle.truth.specs.PathAnswers.{lengthOf, MadeFor, PathAnswer};
+ghost use Rattle.truth.specs.Shows.{Holds, ShowsLine};
+use crate::labelling::label_lines;
+use crate::labelling::sheet_of;
+use crate::lines::solve;
+use crate::product::chain_states;
+use crate::structure;
+use crate::tables::line_row;
+use crate::walk::walk;
+use sheets::automata;
+use sheets::checks;
+use sheets::machine;
+use sheets::rules;
+
+// The answer: refused by a question, with the number of the machine sheet for questions 1 to 6; no path; or a path of so many pairs,
+// the last of which goes to the pair at the back index.
+pub enum Shown {
+    Refused { question: u16, sheet: u16 },
+    NoPath,
+    Path { length: u16, back: u16 },
+}
+
+// A list that was made, and the answer.
+pub struct Made {
+    pub nodes: [u16; 2048],
+    pub states: [u16; 2048],
+    pub answer: Shown,
+}
+
+// Line 0 means the last line.
+pub fn asked(r: &[u16], line: u16) -> u16
+    ensures { λ j. ⌜ j ≡ Path.asked (now (r .entry)) line ⌝ }
+{
+    if line == 0 { rules::lines(r) } else { line }
+}
+
+// The number of the first question of a path call that says no, 0 where none does, for a list with room for so many pairs.
+pub fn path_refusal(m: &[u16], r: &[u16], line: u16, node: u16, room: usize) -> u16
+    ensures { λ q. ⌜ q ≡ firstNo (Path.pathQuestions (now (m .entry)) (now (r .entry)) line node room) .number ⌝ }
+{
+    let machine = machine::machine_refusal(m);
+    if machine != 0 {
+        return machine;
+    }
+    let rules = checks::rule_refusal(r);
+    if rules != 0 {
+        return rules;
+    }
+    if !sheets::lines::over_signals(r, machine::signals(m)) {
+        return 16;
+    }
+    if !q18(m, r, line, node) {
+        return 18;
+    }
+    if !q19(m, r, line, room) {
+        return 19;
+    }
+    0
+}
+
+pub fn q18(m: &[u16], r: &[u16], line: u16, node: u16) -> bool
+    ensures { λ b. ⌜ b ≡ Path.q18 (now (m .entry)) (now (r .entry)) line node ⌝ }
+{
+    let j = asked(r, line);
+    if !sheets::words::within(1, rules::lines(r), j) {
+        return false;
+    }
+    if !sheets::words::within(1, machine::nodes(m), node) {
+        return false;
+    }
+    sheets::words::within(3, 4, rules::line_word(r, j, 0))
+}
+
+pub fn q19(m: &[u16], r: &[u16], line: u16, room: usize) -> bool
+    ensures { λ b. ⌜ b ≡ Path.q19 (now (m .entry)) (now (r .entry)) line room ⌝ }
+{
+    let x = rules::line_word(r, asked(r, line), 1);
+    let n = machine::nodes(m) as usize;
+    let t = automata::chain_length(r, x) as usize;
+    n * t <= room
+}
+
+// The states at the first `count` positions of the list, by their record numbers.
+pub fn named(states: [u16; 16], positions: [u16; 2048], count: u16) -> [u16; 2048]
+    requires { ⌜ (count ≤ 2048) × ((i : ℕ) → i < count → getD positions i 0 < 16) ⌝ }
+    ensures { λ a. ⌜ ((i : ℕ) → i < count → getD a i 0 ≡ getD states (getD positions i 0) 0) ⌝ }
+{
+    let mut out = [0u16; 2048];
+    let mut i: u16 = 0;
+    while i < count {
+        let p = positions[i as usize];
+        out[i as usize] = states[p as usize];
+        i += 1;
+    }
+    out
+}
+
+// The list for line j, of automaton x, which is true at node s by the rows above it.
+pub fn show(
+    m: &[u16],
+    r: &[u16],
+    next: &[u64; 512],
+    back: &[u64; 512],
+    rows: &[u64],
+    j: u16,
+    x: u16,
+    exchanged: bool,
+    s: u16,
+) -> Made
+    requires { ⌜ (PathReady (now m) (now r) (now next) (now back) (now rows) j x) × ((1 ≤ s) × ((s ≤ Machine.nodes (now m)) × Holds (now m) (now r) (now rows) j x exchanged s)) ⌝ }
+    ensures { λ a. ⌜ ShowsLine (now (m .entry)) (now (r .entry)) (now (rows .entry)) j x exchanged s (a .nodes) (a .states) (a .answer) ⌝ }
+{
+    let solved = solve(m, r, next, back, rows, j, x, exchanged);
+    let t = automata::chain_length(r, x);
+    let n = machine::nodes(m);
+    let allow = solved.allow;
+    let lasting = solved.lasting;
+    let reached = solved.reached;
+    let times = solved.times;
+    let found = walk(&allow, next, t as usize, n, &lasting, &reached, &times, s);
+    let positions = found.positions;
+    let length = found.length;
+    let states = named(chain_states(r, x, t), positions, length);
+    let nodes = found.nodes;
+    Made {
+        nodes: nodes,
+        states: states,
+        answer: Shown::Path {
+            length: length,
+            back: found.back,
+        },
+    }
+}
+
+// Labels the lines and makes the list, or says why there is none.
+pub fn make(m: &[u16], r: &[u16], line: u16, node: u16, room: usize) -> Made
+    ensures { λ a. ⌜ MadeFor (now (m .entry)) (now (r .entry)) line node room (a .nodes) (a .states) (a .answer) ⌝ }
+{
+    let question = path_refusal(m, r, line, node, room);
+    if question != 0 {
+        return Made {
+            nodes: [0u16; 2048],
+            states: [0u16; 2048],
+            answer: Shown::Refused {
+                question: question,
+                sheet: sheet_of(question),
+            },
+        };
+    }
+    let j = asked(r, line);
+    let mut rows = [0u64; 2048];
+    label_lines(m, r, &mut rows);
+    let row = line_row(&rows, j as usize);
+    if !row.has(node) {
+        return Made {
+            nodes: [0u16; 2048],
+            states: [0u16; 2048],
+            answer: Shown::NoPath,
+        };
+    }
+    let next = structure::successors(m);
+    let back = structure::predecessors(&next, machine::nodes(m));
+    let x = rules::line_word(r, j, 1);
+    let exchanged = rules::line_word(r, j, 0) == 4;
+    show(m, r, &next, &back, &rows, j, x, exchanged, node)
+}
+
+// Writes the first `count` numbers to the list.
+pub fn write_first(list: &mut [u16], from: [u16; 2048], count: u16)
+    requires { ⌜ (count ≤ 2048) × (count ≤ length (now list)) ⌝ }
+    ensures { λ u. ⌜ now (list .exit) ≡ take count from ++ drop count (now (list .entry)) ⌝ }
+{
+    let mut i: u16 = 0;
+    while i < count {
+        list[i as usize] = from[i as usize];
+        i += 1;
+    }
+}
+
+// How many pairs a made list has.
+pub fn length_of(answer: Shown) -> u16
+    ensures { λ n. ⌜ n ≡ lengthOf answer ⌝ }
+{
+    match answer {
+        Shown::Refused {
+            question: _,
+            sheet: _,
+        } => 0,
+        Shown::NoPath => 0,
+        Shown::Path { length, back: _ } => length,
+    }
+}
+
+// The lesser of two lengths.
+fn least(a: usize, b: usize) -> usize
+    ensures { λ r. ⌜ r ≡ min a b ⌝ }
+{
+    if a < b { a } else { b }
+}
+
+// Shows a path for the line at the node: nodes and states of the pairs go to two lent lists. Line 0 means the last line.
+pub fn path(
+    m: &[u16],
+    r: &[u16],
+    line: u16,
+    node: u16,
+    nodes: &mut [u16],
+    states: &mut [u16],
+) -> Shown
+    ensures { λ a. ⌜ PathAnswer (now (m .entry)) (now (r .entry)) line node (now (nodes .entry)) (now (states .entry)) (now (nodes .exit)) (now (states .exit)) a ⌝ }
+{
+    // No list is longer than that: more room changes no answer.
+    let room = least(least(nodes.len(), states.len()), 2048);
+    let made = make(m, r, line, node, room);
+    let answer = made.answer;
+    let count = length_of(answer);
+    let shown_nodes = made.nodes;
+    let shown_states = made.states;
+    write_first(nodes, shown_nodes, count);
+    write_first(states, shown_states, count);
+    answer
+}
