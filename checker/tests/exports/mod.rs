@@ -5,6 +5,7 @@
 #![allow(dead_code)]
 
 use checker::labelling::Labelling;
+use checker::path::{self, Asked, Pair};
 use checker::refusal::Refusal;
 
 extern "C" {
@@ -21,6 +22,21 @@ extern "C" {
         kept: *mut u16,
         count: *mut u32,
         percent: *mut u32,
+    ) -> u16;
+    fn toqshenay_path(
+        machine: *const u16,
+        machine_length: usize,
+        rules: *const u16,
+        rules_length: usize,
+        line: u16,
+        node: u16,
+        nodes: *mut u16,
+        nodes_length: usize,
+        states: *mut u16,
+        states_length: usize,
+        sheet: *mut u16,
+        length: *mut u16,
+        back: *mut u16,
     ) -> u16;
 }
 
@@ -61,5 +77,42 @@ pub fn label(machine: &[u16], rules: &[u16], rows: &mut [u64]) -> Labelling {
             percent: percent as usize,
         },
         _ => Labelling::Refused(Refusal { question, sheet }),
+    }
+}
+
+/// Asks for a path; its pairs go to the list.
+pub fn path(machine: &[u16], rules: &[u16], asked: Asked, list: &mut [Pair]) -> path::Answer {
+    let word = |number: u64| u16::try_from(number).expect("lines and nodes are words");
+    let (line, node) = (word(asked.line), word(asked.node));
+    let (mut nodes, mut states): (Vec<u16>, Vec<u16>) = list.iter().copied().unzip();
+    let (mut sheet, mut length, mut back) = (0, 0, 0);
+    // SAFETY: addresses and lengths are those of slices and numbers that live through the call.
+    let question = unsafe {
+        toqshenay_path(
+            machine.as_ptr(),
+            machine.len(),
+            rules.as_ptr(),
+            rules.len(),
+            line,
+            node,
+            nodes.as_mut_ptr(),
+            nodes.len(),
+            states.as_mut_ptr(),
+            states.len(),
+            &mut sheet,
+            &mut length,
+            &mut back,
+        )
+    };
+    for (pair, parts) in list.iter_mut().zip(nodes.into_iter().zip(states)) {
+        *pair = parts;
+    }
+    match (question, length) {
+        (0, 0) => path::Answer::NoPath,
+        (0, _) => path::Answer::Shown {
+            length: length.into(),
+            back: back.into(),
+        },
+        _ => path::Answer::Refused(Refusal { question, sheet }),
     }
 }

@@ -1,2 +1,3 @@
 -- What holds of exports.
 pub mod LabelNumbers
+pub mod PathNumbers

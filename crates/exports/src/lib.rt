@@ -3,11 +3,14 @@ ghost use mathlib.Core.Path.{_≡_};
 ghost use Rattle.sheets.specs.Machine.{machineRefusal};
 ghost use Rattle.sheets.specs.Rules.{lent, ruleRefusal};
 ghost use Rattle.truth.specs.Answers.{LabelAnswer};
-ghost use Rattle.exports.specs.Numbers.{labelled};
+ghost use Rattle.truth.specs.PathAnswers.{PathAnswer};
+ghost use Rattle.exports.specs.Numbers.{labelled, shown};
 use sheets::checks;
 use sheets::checks::Check;
 use truth::labelling;
 use truth::labelling::Labelled;
+use truth::path;
+use truth::path::Shown;
 
 // The question that refuses a machine sheet, 0 where it is accepted.
 #[no_mangle]
@@ -65,6 +68,45 @@ pub extern "C" fn toqshenay_label(
             *kept = k as u16;
             *count = c;
             *percent = p;
+            0
+        }
+    }
+}
+
+// Shows a path for a path line at a node: the nodes and the states of its pairs go to two lent lists. The question that refuses, and
+// its sheet, or 0; then the number of pairs, 0 where there is no path, and the place that the last pair goes back to.
+#[no_mangle]
+pub extern "C" fn toqshenay_path(
+    m: &[u16],
+    r: &[u16],
+    line: u16,
+    node: u16,
+    nodes: &mut [u16],
+    states: &mut [u16],
+    sheet: &mut u16,
+    length: &mut u16,
+    back: &mut u16,
+) -> u16
+    ensures { λ q. ⌜ PathAnswer (now (m .entry)) (now (r .entry)) line node (now (nodes .entry)) (now (states .entry)) (now (nodes .exit)) (now (states .exit)) (shown q (now (sheet .exit)) (now (length .exit)) (now (back .exit))) ⌝ }
+{
+    let answer = path::path(m, r, line, node, nodes, states);
+    match answer {
+        Shown::Refused { question, sheet: s } => {
+            *sheet = s;
+            *length = 0;
+            *back = 0;
+            question
+        }
+        Shown::NoPath => {
+            *sheet = 0;
+            *length = 0;
+            *back = 0;
+            0
+        }
+        Shown::Path { length: l, back: b } => {
+            *sheet = 0;
+            *length = l;
+            *back = b;
             0
         }
     }
