@@ -2,6 +2,6 @@
 pub use Rattle.sheets.specs.Questions.{Refusal, Question, ask}
 pub use Rattle.sheets.specs.Structures.{Kripke, Automaton, Line, signal, negation, either, somePath, somePathNot, malformed}
 unfoldable pub use Rattle.sheets.specs.Questions.{none, firstNo}
-unfoldable pub use Rattle.sheets.specs.Words.{bit, each, within}
+unfoldable pub use Rattle.sheets.specs.Words.{word, bit, each, within}
 unfoldable pub use Rattle.sheets.specs.Machine.{kripke, nodes, signals, machineQuestions, machineRefusal}
 unfoldable pub use Rattle.sheets.specs.Rules.{lent, lifted, automata, states, transitions, variables, lines, lineWord, automaton, line, lineOf, unused, refersAbove, pathFits, lineFits, ruleRefusal, overSignals, q7, q8, q9, q10, q11, q12, q13, q14, q15}

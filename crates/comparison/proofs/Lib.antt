@@ -1,0 +1,26 @@
+-- What holds of comparison: written lines and their truths, blocks, invariance, refinement, and the outcome.
+pub mod Lines
+pub mod LinesAccepted
+pub mod NextStep
+pub mod TrueLines
+pub mod AddedLines
+pub mod ExactLines
+pub mod DecidedBlocks
+pub mod Invariance
+pub mod Partition
+pub mod Refinement
+pub mod FirstLines
+pub mod TellingApart
+pub mod WrittenSheet
+pub mod Parts
+pub mod Outcome
+pub mod HeldLines
+pub mod BlockTables
+pub mod FinerBlocks
+pub mod OwedBlocks
+pub mod StagedSplits
+pub mod DividingBlocks
+pub mod Splitters
+pub mod SettlingBlocks
+pub mod FirstStage
+pub mod PartitionOutcome

@@ -1,0 +1,90 @@
+-- The rule sheet of a list of written lines: its size, and what its records say.
+use mathlib.Core.Path.{_≡_, refl, sym, ap, ap₂, _∙_}
+use Prim.Native.Nat.{ℕ, zero, suc, _+_, _-_, _*_, _≤_, _<_}
+use native.Mathlib.Omega.{arith}
+use mathlib.Core.List.{List, [], _∷_, _++_}
+use lib.ListN.{length, getD, replicate, length-append, List·getD-append}
+use lib.Seq.{getD-append-add}
+use Rattle.truth.specs.Passed.{Line, signal, negation, either, somePath, lifted, lines, lineWord, line, lineOf}
+use Rattle.comparison.specs.Lines.{Entry, sig, neg, alt, next, words, lineWords, head, sheet, entry}
+
+-- line j of a sheet, taken apart; `arg` are the argument words of a path line
+unfoldable pub decoded : (ℕ → ℕ) → Entry → Line
+decoded arg (sig i) = signal i
+decoded arg (neg j) = negation j
+decoded arg (alt i j) = either i j
+decoded arg (next j) = somePath 1 arg
+
+length-words : (l : Entry) → length (words l) ≡ 6
+unfolding words
+length-words (sig i) = refl
+length-words (neg j) = refl
+length-words (alt i j) = refl
+length-words (next j) = refl
+
+length-lineWords : (ls : List Entry) → length (lineWords ls) ≡ 6 * length ls
+unfolding lineWords
+length-lineWords [] = refl
+length-lineWords (l ∷ ls) = omega (arith, length-append (words l) (lineWords ls), length-words l, length-lineWords ls)
+
+pub length-sheet : (ls : List Entry) → length (sheet ls) ≡ 33 + 6 * length ls
+unfolding sheet
+length-sheet ls = omega (arith, length-lineWords ls)
+
+pub lines-are : (ls : List Entry) → lines (sheet ls) ≡ length ls
+unfolding lines sheet
+lines-are ls = refl
+
+-- zeros at the end of a list of words
+pub padded : (p : List ℕ) (n k : ℕ) → length p ≤ k → getD (p ++ replicate n 0) k 0 ≡ 0
+padded [] zero k h = refl
+padded [] (suc n) zero h = refl
+padded [] (suc n) (suc k) h = padded [] n k (omega arith)
+padded (x ∷ p) n zero h = absurd (omega arith)
+padded (x ∷ p) n (suc k) h = padded p n k (omega arith)
+
+-- word k of record i, counted from 0; past the end both sides are 0
+word-of-line : (ls : List Entry) (i k : ℕ) → k < 6 → getD (lineWords ls) (6 * i + k) 0 ≡ getD (words (getD ls i (sig 0))) k 0
+unfolding lineWords words
+word-of-line [] i k h = sym (padded [] 6 k (omega arith))
+word-of-line (l ∷ ls) zero k h =
+    let e : 6 * 0 + k ≡ k = omega arith in
+    let b : k < length (words l) = omega (arith, length-words l) in
+    ap (λ (n : ℕ). getD (words l ++ lineWords ls) n 0) e ∙ List·getD-append (words l) (lineWords ls) 0 k b
+word-of-line (l ∷ ls) (suc i) k h =
+    let e : 6 * suc i + k ≡ length (words l) + (6 * i + k) = omega (arith, length-words l) in
+    ap (λ (n : ℕ). getD (words l ++ lineWords ls) n 0) e ∙ getD-append-add (words l) (lineWords ls) (6 * i + k) 0 ∙ word-of-line ls i k h
+
+-- ---- the sheet, read as a rule of the logic
+
+module _ (ls : List Entry) (j : ℕ) where
+  pub word-is : (l : Entry) → entry ls j ≡ l → (k : ℕ) → k < 6 → lineWord (lifted 6) (sheet ls) j k ≡ getD (words l) k 0
+  unfolding lineWord lifted sheet entry
+  word-is l e k h =
+      let at : 33 + 6 * (j - 1) + k ≡ 33 + (6 * (j - 1) + k) = omega arith in
+      ap (λ (n : ℕ). getD (head (length ls) ++ lineWords ls) n 0) at
+      ∙ getD-append-add (head (length ls)) (lineWords ls) (6 * (j - 1) + k) 0
+      ∙ word-of-line ls (j - 1) k h
+      ∙ ap (λ (x : Entry). getD (words x) k 0) e
+
+  line-by : (l : Entry) → entry ls j ≡ l → line (lifted 6) (sheet ls) j ≡ decoded (λ i. lineWord (lifted 6) (sheet ls) j (2 + i)) l
+  unfolding line decoded words
+  line-by (sig i) e =
+      ap (lineOf (lifted 6) (sheet ls) j) (word-is (sig i) e 0 (omega arith)) ∙ ap signal (word-is (sig i) e 1 (omega arith))
+  line-by (neg i) e =
+      ap (lineOf (lifted 6) (sheet ls) j) (word-is (neg i) e 0 (omega arith)) ∙ ap negation (word-is (neg i) e 1 (omega arith))
+  line-by (alt i k) e =
+      ap (lineOf (lifted 6) (sheet ls) j) (word-is (alt i k) e 0 (omega arith))
+      ∙ ap₂ either (word-is (alt i k) e 1 (omega arith)) (word-is (alt i k) e 2 (omega arith))
+  line-by (next i) e =
+      ap (lineOf (lifted 6) (sheet ls) j) (word-is (next i) e 0 (omega arith))
+      ∙ ap (λ (x : ℕ). somePath x (λ k. lineWord (lifted 6) (sheet ls) j (2 + k))) (word-is (next i) e 1 (omega arith))
+
+  -- line j of the sheet is line j of the list
+  pub line-is : line (lifted 6) (sheet ls) j ≡ decoded (λ i. lineWord (lifted 6) (sheet ls) j (2 + i)) (entry ls j)
+  line-is = line-by (entry ls j) refl
+
+  -- the argument of a path line
+  pub argument-is : (i : ℕ) → entry ls j ≡ next i → lineWord (lifted 6) (sheet ls) j 2 ≡ i
+  unfolding words
+  argument-is i e = word-is (next i) e 2 (omega arith)

@@ -1,0 +1,179 @@
+-- The splitters: a signal, and "some next of a block" by a line written for it. What they are ready for, and what they come to.
+use mathlib.Core.Path.{_≡_, refl, sym, _∙_}
+use mathlib.Core.Logic.{_≢_}
+use Prim.Native.Nat.{ℕ, _+_, _*_, _≤_, _<_}
+use native.Mathlib.Omega.{arith}
+use mathlib.Core.List.{List, [], _∷_, _++_}
+use mathlib.Core.Bool.{Bool, _&&_}
+use borrow.Author.Tests.{le-leb}
+use lib.ListN.{length, getD, length-append}
+use lib.Dec.{leb}
+use Rattle.truth.specs.Passed.{kripke, nodes, signals, within}
+use Rattle.truth.specs.Rows.{rowHas, rowsHas, leadsInto}
+use Rattle.truth.specs.declared.rows.Row.{Row}
+use Rattle.truth.proofs.Passed.{intoSet, passed, within-in, nodes-sized}
+use Rattle.comparison.specs.Lines.{Entry, next, Adds}
+use Rattle.comparison.specs.Refinement.{LinesIn}
+use Rattle.comparison.specs.Tables.{State, firstOf, secondOf, lineOf}
+use Rattle.comparison.specs.Stages.{Staged, Cut, NextSplit, Starts, Finer, Owes, Divided}
+use Rattle.comparison.proofs.AddedLines.{entry-above}
+use Rattle.comparison.proofs.ExactLines.{exact-as, exact-sig, next-down, next-added}
+use Rattle.comparison.proofs.Refinement.{grows}
+use Rattle.comparison.proofs.FinerBlocks.{unsplit-as, finer-none, finer-then}
+use Rattle.comparison.proofs.OwedBlocks.{owes-none, owes-then}
+
+-- ---- the sets in rows
+
+-- the nodes 1 to n that pass, in a row
+abbrev pub passing : ℕ → (ℕ → Bool) → ℕ → Bool
+passing n q s = leb s n && (within 1 128 s && q s)
+
+passing-node : (n : ℕ) (q : ℕ → Bool) (s : ℕ) → n ≤ 128 → 1 ≤ s → s ≤ n → passing n q s ≡ q s
+passing-node n q s h lo hi = rw (le-leb s n hi, passed (within 1 128 s) (within-in 1 128 s lo (omega arith)))
+
+-- some next of a row that was loaded
+pub loaded-next : (M B : List ℕ) (r : Row) (d s : ℕ) → (r .low ≡ getD B (2 * d) 0) × (r .high ≡ getD B (2 * d + 1) 0)
+    → passing (nodes M) (leadsInto M (rowHas r)) s ≡ passing (nodes M) (intoSet M (rowsHas B d)) s
+unfolding leadsInto intoSet
+loaded-next M B r d s e = rw (e .0, e .1)
+
+module _ (M₁ M₂ : List ℕ) (st : State) (w : Staged M₁ M₂ 5 st) (y₁ y₂ x₁ x₂ : ℕ → Bool) (e₁ : (s : ℕ) → x₁ s ≡ passing (nodes M₁) y₁ s) (e₂ : (t : ℕ) → x₂ t ≡ passing (nodes M₂) y₂ t) where
+  same₁ : (s : ℕ) → 1 ≤ s → s ≤ nodes M₁ → x₁ s ≡ y₁ s
+  same₁ s lo hi = e₁ s ∙ passing-node (nodes M₁) y₁ s (nodes-sized M₁ (w .accepted₁) .1) lo hi
+
+  same₂ : (t : ℕ) → 1 ≤ t → t ≤ nodes M₂ → x₂ t ≡ y₂ t
+  same₂ t lo hi = e₂ t ∙ passing-node (nodes M₂) y₂ t (nodes-sized M₂ (w .accepted₂) .1) lo hi
+
+  cut-rows : (ls : List Entry) (p : ℕ) → Cut M₁ M₂ ls p y₁ y₂ → Cut M₁ M₂ ls p x₁ x₂
+  cut-rows ls p c = record {
+    from = c .from;
+    to = c .to;
+    first = exact-as M₁ ls p y₁ x₁ (λ s lo hi. sym (same₁ s lo hi)) (c .first);
+    second = exact-as M₂ ls p y₂ x₂ (λ t lo hi. sym (same₂ t lo hi)) (c .second);
+  }
+
+  pub divided-rows : (st′ : State) → Divided M₁ M₂ st st′ x₁ x₂ → Divided M₁ M₂ st st′ y₁ y₂
+  divided-rows st′ d = record {
+    staged = d .staged;
+    finer = d .finer;
+    owes = d .owes;
+    done = λ c h. unsplit-as M₁ M₂ (firstOf st′) (secondOf st′) c x₁ x₂ y₁ y₂ same₁ same₂ (d .done c h);
+  }
+
+  -- nothing is split
+  pub divided-none : (c : ℕ) → NextSplit M₁ M₂ (firstOf st) (secondOf st) 0 (st .count) x₁ x₂ c → c ≡ st .count → Divided M₁ M₂ st st y₁ y₂
+  divided-none c n e = divided-rows st (record {
+    staged = w;
+    finer = finer-none st;
+    owes = owes-none st;
+    done = λ b h. n .before b (omega arith) (omega arith);
+  })
+
+-- ---- signal i
+pub signal-starts : (M₁ M₂ : List ℕ) (st : State) → Staged M₁ M₂ 5 st → (i : ℕ) → 1 ≤ i → i ≤ signals M₁ → (x₁ x₂ : ℕ → Bool)
+    → ((s : ℕ) → x₁ s ≡ passing (nodes M₁) (kripke M₁ .signal i) s) → ((t : ℕ) → x₂ t ≡ passing (nodes M₂) (kripke M₂ .signal i) t)
+    → (c : ℕ) → NextSplit M₁ M₂ (firstOf st) (secondOf st) 0 (st .count) x₁ x₂ c → Starts M₁ M₂ st c i x₁ x₂
+signal-starts M₁ M₂ st w i lo hi x₁ x₂ e₁ e₂ c n =
+    let number = w .number in
+    let below = w .below in
+    let most : i ≤ length (w .ls) = omega arith in
+    let down = w .refinement .down in
+    record {
+      spare = 5;
+      ready = record {
+        staged = w;
+        cut = cut-rows M₁ M₂ st w (kripke M₁ .signal i) (kripke M₂ .signal i) x₁ x₂ e₁ e₂ (w .ls) i (record {
+          from = lo;
+          to = most;
+          first = exact-sig M₁ (w .accepted₁) (signals M₁) (w .ls) down i lo most i (w .signal i lo hi);
+          second = exact-sig M₂ (w .accepted₂) (signals M₁) (w .ls) down i lo most i (w .signal i lo hi);
+        });
+      };
+      enough = omega arith;
+      settled = λ h. omega arith;
+      next = n;
+    }
+
+-- ---- some next of block d
+module _ (M₁ M₂ : List ℕ) (st : State) (w : Staged M₁ M₂ 5 st) (d : ℕ) (h : d < st .count) (words′ : List ℕ) (adds : Adds (st .words) words′ (st .lines) (next (lineOf st d) ∷ [])) where
+  -- its line is written
+  abbrev pub written : State
+  written = record {
+    first = st .first;
+    second = st .second;
+    line = st .line;
+    words = words′;
+    count = st .count;
+    lines = st .lines + 1;
+    owed = st .owed;
+  }
+
+  staged-written : Staged M₁ M₂ 4 written
+  unfolding LinesIn
+  staged-written =
+      let r = w .refinement in
+      let more = next (lineOf st d) ∷ [] in
+      let size = length-append (w .ls) more in
+      let number = w .number in
+      let below = w .below in
+      let short = w .short in
+      record {
+        accepted₁ = w .accepted₁;
+        accepted₂ = w .accepted₂;
+        sum = w .sum;
+        size₁ = w .size₁;
+        size₂ = w .size₂;
+        sizeLine = w .sizeLine;
+        ls = w .ls ++ more;
+        number = omega arith;
+        holds = adds .adds (w .ls) number (w .holds);
+        refinement = grows (signals M₁) M₁ M₂ (w .accepted₁) (w .accepted₂) (w .ls) (st .count) (lineOf st) (firstOf st) (secondOf st) r more
+            (next-down (signals M₁) (w .ls) (r .down) (lineOf st d) (r .lines d h .0) (r .lines d h .1));
+        ofNodes = w .ofNodes;
+        signal = λ i lo hi. entry-above (w .ls) more i lo (omega arith) ∙ w .signal i lo hi;
+        below = omega arith;
+        short = omega arith;
+      }
+
+  cut-written : Cut M₁ M₂ (w .ls ++ next (lineOf st d) ∷ []) (st .lines + 1) (intoSet M₁ (firstOf st d)) (intoSet M₂ (secondOf st d))
+  unfolding LinesIn
+  cut-written =
+      let r = w .refinement in
+      let size = length-append (w .ls) (next (lineOf st d) ∷ []) in
+      let number = w .number in
+      record {
+        from = omega arith;
+        to = omega arith;
+        first = rw number at (next-added (signals M₁) (w .ls) (r .down) (lineOf st d) (r .lines d h .0) (r .lines d h .1) M₁ (w .accepted₁) (firstOf st d) (r .first .exact d h));
+        second = rw number at (next-added (signals M₁) (w .ls) (r .down) (lineOf st d) (r .lines d h .0) (r .lines d h .1) M₂ (w .accepted₂) (secondOf st d) (r .second .exact d h));
+      }
+
+  module _ (x₁ x₂ : ℕ → Bool) (e₁ : (s : ℕ) → x₁ s ≡ passing (nodes M₁) (intoSet M₁ (firstOf st d)) s) (e₂ : (t : ℕ) → x₂ t ≡ passing (nodes M₂) (intoSet M₂ (secondOf st d)) t) where
+    pub next-starts : (c : ℕ) → NextSplit M₁ M₂ (firstOf st) (secondOf st) 0 (st .count) x₁ x₂ c → c ≢ st .count → Starts M₁ M₂ written c (st .lines + 1) x₁ x₂
+    unfolding staged-written
+    next-starts c n f =
+        let high = n .high in
+        record {
+          spare = 4;
+          ready = record {
+            staged = staged-written;
+            cut = cut-rows M₁ M₂ st w (intoSet M₁ (firstOf st d)) (intoSet M₂ (secondOf st d)) x₁ x₂ e₁ e₂ (w .ls ++ next (lineOf st d) ∷ []) (st .lines + 1) cut-written;
+          };
+          enough = omega arith;
+          settled = λ l. absurd (f (omega arith));
+          next = n;
+        }
+
+    pub next-divided : (st′ : State) → Divided M₁ M₂ written st′ x₁ x₂ → Divided M₁ M₂ st st′ (intoSet M₁ (firstOf st d)) (intoSet M₂ (secondOf st d))
+    next-divided st′ v = divided-rows M₁ M₂ st w (intoSet M₁ (firstOf st d)) (intoSet M₂ (secondOf st d)) x₁ x₂ e₁ e₂ st′ (record {
+      staged = v .staged;
+      finer = finer-then st written st′ same-blocks (v .finer);
+      owes = owes-then st written st′ same-owed (v .owes);
+      done = v .done;
+    })
+      where
+        same-blocks : Finer st written
+        same-blocks = record { more = omega arith; part = λ b l. (b, l, λ s t. t, λ s t. t) }
+
+        same-owed : Owes st written
+        same-owed = record { kept = λ b l e. (record { was = l; first = λ s. refl; second = λ t. refl }, e); only = λ o. o; weight = omega arith }

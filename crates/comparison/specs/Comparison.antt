@@ -1,0 +1,51 @@
+-- When two machines are equal, and the rule that tells them apart.
+use mathlib.Core.Path.{_≡_}
+use mathlib.Core.Logic.{_⊎_}
+use Prim.Native.Nat.{ℕ, _+_, _*_, _≤_}
+use mathlib.Core.List.{List, [], _∷_, _++_}
+use mathlib.Core.Bool.{Bool, true, false}
+use lib.ListN.{length, take, drop}
+use lib.Dec.{T, leb, eqb}
+use Rattle.truth.specs.Passed.{firstNo, Question, ask, nodes, signals, machineQuestions, machineRefusal, lent, lifted, ruleRefusal, overSignals, lines}
+use Rattle.truth.specs.Truth.{Keeps}
+
+-- a rule of the logic over a signals, of whatever length and automaton size: its line records have L words
+pub record Rule (a L : ℕ) (R : List ℕ) : Type 0 where
+  pub accepted : ruleRefusal (lifted L) R ≡ 0
+  pub over : T (overSignals (lifted L) a R)
+
+-- kept by both or by neither
+unfoldable pub Agreed : List ℕ → List ℕ → ℕ → List ℕ → Type 0
+unfolding Keeps lifted
+Agreed M₁ M₂ L R = (Keeps (lifted L) M₁ R × Keeps (lifted L) M₂ R) ⊎ ((Keeps (lifted L) M₁ R → ⊥) × (Keeps (lifted L) M₂ R → ⊥))
+
+-- equal: every rule of the logic over the signals is kept by both or by neither
+unfoldable pub Equal : List ℕ → List ℕ → Type 0
+unfolding Agreed signals
+Equal M₁ M₂ = (L : ℕ) (R : List ℕ) → Rule (signals M₁) L R → Agreed M₁ M₂ L R
+
+-- exactly one of the two keeps the rule on a lent sheet
+unfoldable pub ToldApart : List ℕ → List ℕ → List ℕ → Type 0
+unfolding Keeps lent
+ToldApart M₁ M₂ R = (Keeps lent M₁ R × (Keeps lent M₂ R → ⊥)) ⊎ ((Keeps lent M₁ R → ⊥) × Keeps lent M₂ R)
+
+-- the automaton Next: its state and edge records
+unfoldable pub nextWords : List ℕ
+nextWords =
+    0 ∷ 1 ∷ 2 ∷ 0 ∷ 2 ∷ 3 ∷ 1 ∷ 4 ∷ 4 ∷ 0 ∷ 5 ∷ 0
+    ∷ 2 ∷ 3 ∷ 0 ∷ 3 ∷ 2 ∷ 3 ∷ 4 ∷ 1 ∷ 0 ∷ 3 ∷ 3 ∷ 0 ∷ 4 ∷ 3 ∷ 0 ∷ []
+
+unfoldable pub compareQuestions : List ℕ → List ℕ → ℕ → List Question
+unfolding signals nodes
+compareQuestions M₁ M₂ space =
+    ask 20 0 (eqb (signals M₁) (signals M₂)) ∷ ask 21 0 (leb (nodes M₁ + nodes M₂) 128)
+    ∷ ask 22 0 (leb (33 + 6 * (signals M₁ + 7 * (nodes M₁ + nodes M₂))) space) ∷ []
+
+-- a rule sheet R stands at the head of the space, and the words past it are as before
+pub record Written (M₁ M₂ R before after : List ℕ) : Type 0 where
+  pub stands : after ≡ R ++ drop (length R) before
+  pub head : take 33 R ≡ 1 ∷ 4 ∷ 5 ∷ lines R ∷ 1 ∷ 1 ∷ nextWords
+  pub short : lines R ≤ signals M₁ + 7 * (nodes M₁ + nodes M₂)
+  pub accepted : ruleRefusal lent R ≡ 0
+  pub over : T (overSignals lent (signals M₁) R)
+  pub apart : ToldApart M₁ M₂ R

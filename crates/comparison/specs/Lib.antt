@@ -1,0 +1,7 @@
+-- The definitions of comparison.
+pub mod Comparison
+pub mod Lines
+pub mod Blocks
+pub mod Refinement
+pub mod Tables
+pub mod Stages

@@ -1,0 +1,96 @@
+-- Blocks in tables: what a split changes, and what is told of a block.
+use mathlib.Core.Path.{_≡_}
+use Prim.Native.Nat.{ℕ, _+_, _≤_, _<_}
+use mathlib.Core.List.{List}
+use mathlib.Core.Bool.{Bool, true, false, _||_}
+use lib.ListN.{length, getD}
+use lib.Dec.{T, eqb}
+use Rattle.truth.specs.Passed.{nodes}
+use Rattle.truth.specs.Rows.{rowHas, rowsHas}
+use Rattle.comparison.specs.Lines.{split, Adds}
+use Rattle.comparison.specs.Blocks.{Members, Meets, Unsplit, Split}
+use Rattle.comparison.specs.Refinement.{Parted, Lined}
+use Rattle.comparison.specs.declared.blocks.Stand.{Stand}
+
+-- The tables and numbers that refinement works on: row c of `first` and of `second` has the nodes of block c of each machine,
+-- `line` at c its line, and `words` the words of the written lines. Block c is owed as a splitter if `owed` has c + 1.
+pub record State : Type 0 where
+  pub first : List ℕ
+  pub second : List ℕ
+  pub line : List ℕ
+  pub words : List ℕ
+  pub count : ℕ
+  pub lines : ℕ
+  pub owed : ℕ → Bool
+
+abbrev pub state : List ℕ → List ℕ → List ℕ → List ℕ → Stand → State
+state first second line words stand = record {
+  first = first;
+  second = second;
+  line = line;
+  words = words;
+  count = stand .count;
+  lines = stand .lines;
+  owed = rowHas (stand .owed);
+}
+
+abbrev pub firstOf : State → Members
+firstOf st = rowsHas (st .first)
+
+abbrev pub secondOf : State → Members
+secondOf st = rowsHas (st .second)
+
+abbrev pub lineOf : State → ℕ → ℕ
+lineOf st c = getD (st .line) c 0
+
+-- ---- a split
+
+pub record PartedRows (count c : ℕ) (x : ℕ → Bool) (before after : List ℕ) : Type 0 where
+  pub size : length after ≡ 512
+  pub parted : Parted count c x (rowsHas before) (rowsHas after)
+
+pub record LinedBlocks (count c n : ℕ) (before after : List ℕ) : Type 0 where
+  pub size : length after ≡ 256
+  pub lined : Lined count c n (λ d. getD before d 0) (λ d. getD after d 0)
+
+-- the numbers after a split of block c, both parts of which are owed
+pub record Advanced (before after : Stand) (c : ℕ) : Type 0 where
+  pub count : after .count ≡ before .count + 1
+  pub lines : after .lines ≡ before .lines + 6
+  pub owed : (d : ℕ) → rowHas (after .owed) d ≡ ((rowHas (before .owed) d || eqb d (c + 1)) || eqb d (before .count + 1))
+
+-- room for a split of block c
+pub record Room (st : State) (c : ℕ) : Type 0 where
+  pub block : c < st .count
+  pub count : st .count < 128
+  pub lines : st .lines + 6 ≤ 938
+  pub first : length (st .first) ≡ 512
+  pub second : length (st .second) ≡ 512
+  pub line : length (st .line) ≡ 256
+  pub words : length (st .words) ≡ 5632
+
+-- block c was split by the sets, where line p is true
+pub record SplitBlock (st st′ : State) (c p : ℕ) (x₁ x₂ : ℕ → Bool) : Type 0 where
+  pub first : PartedRows (st .count) c x₁ (st .first) (st′ .first)
+  pub second : PartedRows (st .count) c x₂ (st .second) (st′ .second)
+  pub line : LinedBlocks (st .count) c (st .lines) (st .line) (st′ .line)
+  pub words : Adds (st .words) (st′ .words) (st .lines) (split (st .lines) (lineOf st c) p)
+  pub count : st′ .count ≡ st .count + 1
+  pub lines : st′ .lines ≡ st .lines + 6
+  pub owed : (d : ℕ) → st′ .owed d ≡ ((st .owed d || eqb d (c + 1)) || eqb d (st .count + 1))
+
+-- ---- what is told
+
+-- the nodes of block c are nodes of the machines
+unfoldable pub OfNodes : (M₁ M₂ : List ℕ) → Members → Members → ℕ → Type 0
+OfNodes M₁ M₂ m₁ m₂ c = ((s : ℕ) → T (m₁ c s) → s ≤ nodes M₁) × ((t : ℕ) → T (m₂ c t) → t ≤ nodes M₂)
+
+-- r tells whether block c has a node in the sets
+pub record TellsMeets (M₁ M₂ : List ℕ) (m₁ m₂ : Members) (c : ℕ) (x₁ x₂ : ℕ → Bool) (r : Bool) : Type 0 where
+  pub no : r ≡ false → Meets M₁ M₂ m₁ m₂ c x₁ x₂ → ⊥
+  pub yes : r ≡ true → OfNodes M₁ M₂ m₁ m₂ c → Meets M₁ M₂ m₁ m₂ c x₁ x₂
+
+-- r tells whether they split it
+pub record TellsSplit (M₁ M₂ : List ℕ) (m₁ m₂ : Members) (c : ℕ) (x₁ x₂ : ℕ → Bool) (r : Bool) : Type 0 where
+  pub no : r ≡ false → Unsplit M₁ M₂ m₁ m₂ c x₁ x₂
+  pub yes : r ≡ true → OfNodes M₁ M₂ m₁ m₂ c → Split M₁ M₂ m₁ m₂ c x₁ x₂

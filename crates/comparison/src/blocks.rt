@@ -1,0 +1,104 @@
+// Blocks in tables: row c of a table has the nodes of block c. Whether two sets split a block, and splitting it.
+ghost use mathlib.Core.Path.{_≡_};
+ghost use mathlib.Core.List.{List};
+ghost use Prim.Native.Nat.{ℕ, _<_};
+ghost use lib.ListN.{length};
+ghost use Rattle.truth.specs.Rows.{rowHas, rowsHas};
+ghost use Rattle.comparison.specs.Tables.{state, PartedRows, LinedBlocks, Advanced, Room, SplitBlock, TellsMeets, TellsSplit};
+use crate::writing::write_split;
+use truth::rows::Row;
+use truth::tables::load;
+use truth::tables::store;
+
+// How far refinement has come: blocks, written lines, and the blocks that are owed as splitters, block c as c + 1.
+pub struct Stand {
+    pub count: u16,
+    pub lines: u16,
+    pub owed: Row,
+}
+
+impl Stand {
+    // After a split of block c both parts are owed.
+    fn after_split(self, c: u16) -> Stand
+        requires { ⌜ (c < 128) × (self .count < 128) × (self .lines < 938) ⌝ }
+        ensures { λ r. ⌜ Advanced self r c ⌝ }
+    {
+        let both = self.owed.with(c + 1).with(self.count + 1);
+        Stand {
+            count: self.count + 1,
+            lines: self.lines + 6,
+            owed: both,
+        }
+    }
+}
+
+// Row c is parted by the set x: the part outside it becomes row `count`.
+fn part(rows: &mut [u64; 512], count: u16, c: u16, x: Row)
+    requires { ⌜ (c < count) × (count < 256) × (length (now rows) ≡ 512) ⌝ }
+    ensures { λ r. ⌜ PartedRows count c (rowHas x) (now (rows .entry)) (now (rows .exit)) ⌝ }
+{
+    let row = load(rows, c as usize);
+    store(rows, c as usize, row.intersection(x));
+    store(rows, count as usize, row.difference(x));
+}
+
+// The lines of the two parts, below n lines.
+fn relabel(line: &mut [u16; 256], count: u16, c: u16, n: u16)
+    requires { ⌜ (c < count) × (count < 256) × (n < 938) × (length (now line) ≡ 256) ⌝ }
+    ensures { λ r. ⌜ LinedBlocks count c n (now (line .entry)) (now (line .exit)) ⌝ }
+{
+    line[c as usize] = n + 4;
+    line[count as usize] = n + 6;
+}
+
+// Whether block c has a node in the set x1 of the first machine's nodes, or in x2 of the second's.
+fn block_meets(first: &[u64; 512], second: &[u64; 512], c: u16, x1: Row, x2: Row) -> bool
+    requires { ⌜ c < 256 ⌝ }
+    ensures { λ r. ⌜ ((M₁ M₂ : List ℕ) → TellsMeets M₁ M₂ (rowsHas (now (first .entry))) (rowsHas (now (second .entry))) c (rowHas x1) (rowHas x2) r) ⌝ }
+{
+    let row1 = load(first, c as usize);
+    if row1.meets(x1) {
+        return true;
+    }
+    let row2 = load(second, c as usize);
+    row2.meets(x2)
+}
+
+// Whether the sets split block c: it has a node in them and one outside.
+pub fn splits(first: &[u64; 512], second: &[u64; 512], c: u16, x1: Row, x2: Row) -> bool
+    requires { ⌜ c < 256 ⌝ }
+    ensures { λ r. ⌜ ((M₁ M₂ : List ℕ) → TellsSplit M₁ M₂ (rowsHas (now (first .entry))) (rowsHas (now (second .entry))) c (rowHas x1) (rowHas x2) r) ⌝ }
+{
+    if !block_meets(first, second, c, x1, x2) {
+        return false;
+    }
+    block_meets(first, second, c, x1.complement(), x2.complement())
+}
+
+// Block c is split by the sets x1 and x2, where line p is true.
+pub fn split_block(
+    first: &mut [u64; 512],
+    second: &mut [u64; 512],
+    line: &mut [u16; 256],
+    words: &mut [u16; 5632],
+    stand: Stand,
+    c: u16,
+    p: u16,
+    x1: Row,
+    x2: Row,
+) -> Stand
+    requires { ⌜ Room (state (now first) (now second) (now line) (now words) stand) c ⌝ }
+    ensures { λ r. ⌜
+        SplitBlock
+        (state (now (first .entry)) (now (second .entry)) (now (line .entry)) (now (words .entry)) stand)
+        (state (now (first .exit)) (now (second .exit)) (now (line .exit)) (now (words .exit)) r)
+        c p (rowHas x1) (rowHas x2)
+        ⌝ }
+{
+    let b = line[c as usize];
+    write_split(words, stand.lines, b, p);
+    relabel(line, stand.count, c, stand.lines);
+    part(first, stand.count, c, x1);
+    part(second, stand.count, c, x2);
+    stand.after_split(c)
+}

@@ -1,0 +1,269 @@
+// Refinement: the nodes of two machines in blocks, split until no signal and no "some next of a block" splits one.
+ghost use mathlib.Core.Path.{_≡_};
+ghost use mathlib.Core.List.{List};
+ghost use Prim.Native.Nat.{ℕ, _+_, _<_, _≤_};
+ghost use lib.ListN.{length};
+ghost use Rattle.truth.specs.Passed as Passed;
+ghost use Rattle.truth.specs.Rows.{rowHas, rowsHas};
+ghost use Rattle.truth.proofs.Passed.{intoSet};
+ghost use Rattle.comparison.specs.Tables.{state};
+ghost use Rattle.comparison.specs.Stages.{Staged, NextSplit, Starts, Divisible, Divided, Signalled, AllOwed, Settled, Partitioned};
+use crate::blocks::Stand;
+use crate::blocks::split_block;
+use crate::blocks::splits;
+use crate::writing::write_first;
+use crate::writing::write_next;
+use truth::header;
+use truth::rows::Row;
+use truth::structure;
+use truth::tables::load;
+use truth::tables::store;
+
+// A refinement: row c of `first` and of `second` has the nodes of block c of each machine, `line` at c the line that is true there and
+// nowhere else, `words` the words of the lines.
+pub struct Partition {
+    pub first: [u64; 512],
+    pub second: [u64; 512],
+    pub line: [u16; 256],
+    pub words: [u16; 5632],
+    pub count: u16,
+    pub lines: u16,
+}
+
+// The first block from b to n - 1 that the sets split, or n.
+fn next_split(first: &[u64; 512], second: &[u64; 512], b: u16, n: u16, x1: Row, x2: Row) -> u16
+    requires { ⌜ (b ≤ n) × (n ≤ 256) ⌝ }
+    ensures { λ r. ⌜ ((M₁ M₂ : List ℕ) → NextSplit M₁ M₂ (rowsHas (now (first .entry))) (rowsHas (now (second .entry))) b n (rowHas x1) (rowHas x2) r) ⌝ }
+{
+    let mut c = b;
+    while c < n {
+        if splits(first, second, c, x1, x2) {
+            return c;
+        }
+        c += 1;
+    }
+    n
+}
+
+// Splits every block by the sets, where line p is true, from block c on, the first that they split. The parts are not looked at again.
+fn divide(
+    first: &mut [u64; 512],
+    second: &mut [u64; 512],
+    line: &mut [u16; 256],
+    words: &mut [u16; 5632],
+    stand: Stand,
+    c: u16,
+    p: u16,
+    x1: Row,
+    x2: Row,
+) -> Stand
+    requires { ⌜ Divisible (state (now first) (now second) (now line) (now words) stand) c p (rowHas x1) (rowHas x2) ⌝ }
+    ensures { λ r. ⌜
+        ((M₁ M₂ : List ℕ)
+        → Starts M₁ M₂ (state (now (first .entry)) (now (second .entry)) (now (line .entry)) (now (words .entry)) stand) c p (rowHas x1) (rowHas x2)
+        → Divided M₁ M₂
+        (state (now (first .entry)) (now (second .entry)) (now (line .entry)) (now (words .entry)) stand)
+        (state (now (first .exit)) (now (second .exit)) (now (line .exit)) (now (words .exit)) r)
+        (rowHas x1) (rowHas x2))
+        ⌝ }
+{
+    let n = stand.count;
+    let mut so_far = stand;
+    let mut b = c;
+    while b < n {
+        so_far = split_block(first, second, line, words, so_far, b, p, x1, x2);
+        b = next_split(first, second, b + 1, n, x1, x2);
+    }
+    so_far
+}
+
+// Splits every block by signal i.
+fn by_signal(
+    m1: &[u16],
+    m2: &[u16],
+    first: &mut [u64; 512],
+    second: &mut [u64; 512],
+    line: &mut [u16; 256],
+    words: &mut [u16; 5632],
+    stand: Stand,
+    i: u16,
+) -> Stand
+    requires { ⌜ Staged (now m1) (now m2) 5 (state (now first) (now second) (now line) (now words) stand) × (1 ≤ i) × (i ≤ Passed.signals (now m1)) ⌝ }
+    ensures { λ r. ⌜
+        Divided (now (m1 .entry)) (now (m2 .entry))
+        (state (now (first .entry)) (now (second .entry)) (now (line .entry)) (now (words .entry)) stand)
+        (state (now (first .exit)) (now (second .exit)) (now (line .exit)) (now (words .exit)) r)
+        (Passed.kripke (now (m1 .entry)) .signal i) (Passed.kripke (now (m2 .entry)) .signal i)
+        ⌝ }
+{
+    let x1 = structure::signal_row(m1, i);
+    let x2 = structure::signal_row(m2, i);
+    let c = next_split(first, second, 0, stand.count, x1, x2);
+    divide(first, second, line, words, stand, c, i, x1, x2)
+}
+
+// Splits every block by every signal.
+fn by_signals(
+    m1: &[u16],
+    m2: &[u16],
+    first: &mut [u64; 512],
+    second: &mut [u64; 512],
+    line: &mut [u16; 256],
+    words: &mut [u16; 5632],
+    stand: Stand,
+) -> Stand
+    requires { ⌜ Staged (now m1) (now m2) 5 (state (now first) (now second) (now line) (now words) stand) ⌝ }
+    ensures { λ r. ⌜ Signalled (now (m1 .entry)) (now (m2 .entry)) (state (now (first .exit)) (now (second .exit)) (now (line .exit)) (now (words .exit)) r) ⌝ }
+{
+    let a = header::signals(m1);
+    let mut so_far = stand;
+    let mut i: u16 = 0;
+    while i < a {
+        i += 1;
+        so_far = by_signal(m1, m2, first, second, line, words, so_far, i);
+    }
+    so_far
+}
+
+// Splits every block by "some next of block d". Its line is written only if it splits one.
+fn by_next(
+    m1: &[u16],
+    m2: &[u16],
+    first: &mut [u64; 512],
+    second: &mut [u64; 512],
+    line: &mut [u16; 256],
+    words: &mut [u16; 5632],
+    stand: Stand,
+    d: u16,
+) -> Stand
+    requires { ⌜ Staged (now m1) (now m2) 5 (state (now first) (now second) (now line) (now words) stand) × (d < stand .count) ⌝ }
+    ensures { λ r. ⌜
+        Divided (now (m1 .entry)) (now (m2 .entry))
+        (state (now (first .entry)) (now (second .entry)) (now (line .entry)) (now (words .entry)) stand)
+        (state (now (first .exit)) (now (second .exit)) (now (line .exit)) (now (words .exit)) r)
+        (intoSet (now (m1 .entry)) (rowsHas (now (first .entry)) d)) (intoSet (now (m2 .entry)) (rowsHas (now (second .entry)) d))
+        ⌝ }
+{
+    let x1 = structure::some_next(m1, load(first, d as usize));
+    let x2 = structure::some_next(m2, load(second, d as usize));
+    let c = next_split(first, second, 0, stand.count, x1, x2);
+    if c == stand.count {
+        return stand;
+    }
+    write_next(words, stand.lines, line[d as usize]);
+    let owed = stand.owed;
+    let written = Stand {
+        count: stand.count,
+        lines: stand.lines + 1,
+        owed: owed,
+    };
+    divide(
+        first,
+        second,
+        line,
+        words,
+        written,
+        c,
+        stand.lines + 1,
+        x1,
+        x2,
+    )
+}
+
+// Splits by "some next" of every block that is owed, until none is.
+fn by_nexts(
+    m1: &[u16],
+    m2: &[u16],
+    first: &mut [u64; 512],
+    second: &mut [u64; 512],
+    line: &mut [u16; 256],
+    words: &mut [u16; 5632],
+    stand: Stand,
+) -> Stand
+    requires { ⌜ Signalled (now m1) (now m2) (state (now first) (now second) (now line) (now words) stand) × AllOwed (state (now first) (now second) (now line) (now words) stand) ⌝ }
+    ensures { λ r. ⌜ Settled (now (m1 .entry)) (now (m2 .entry)) (state (now (first .exit)) (now (second .exit)) (now (line .exit)) (now (words .exit)) r) ⌝ }
+{
+    let mut so_far = stand;
+    loop {
+        let d = so_far.owed.first();
+        if d == 0 {
+            return so_far;
+        }
+        let taken = Stand {
+            count: so_far.count,
+            lines: so_far.lines,
+            owed: so_far.owed.without(d),
+        };
+        so_far = by_next(m1, m2, first, second, line, words, taken, d - 1);
+    }
+}
+
+// One block of all the nodes, with the line that is true everywhere.
+fn begin(
+    m1: &[u16],
+    m2: &[u16],
+    first: &mut [u64; 512],
+    second: &mut [u64; 512],
+    line: &mut [u16; 256],
+    words: &mut [u16; 5632],
+) -> Stand
+    requires { ⌜
+        (Passed.machineRefusal (now m1) ≡ 0) × (Passed.machineRefusal (now m2) ≡ 0) × (Passed.nodes (now m1) + Passed.nodes (now m2) ≤ 128)
+        × (length (now first) ≡ 512) × (length (now second) ≡ 512) × (length (now line) ≡ 256) × (length (now words) ≡ 5632)
+        ⌝ }
+    ensures { λ r. ⌜ Staged (now (m1 .entry)) (now (m2 .entry)) 5 (state (now (first .exit)) (now (second .exit)) (now (line .exit)) (now (words .exit)) r) ⌝ }
+{
+    let a = header::signals(m1);
+    write_first(words, a);
+    store(first, 0, structure::node_row(header::nodes(m1)));
+    store(second, 0, structure::node_row(header::nodes(m2)));
+    line[0] = a + 2;
+    Stand {
+        count: 1,
+        lines: a + 2,
+        owed: Row::empty(),
+    }
+}
+
+// The nodes of two accepted machines in blocks that no signal and no "some next of a block" splits, each with its written line.
+pub fn refine(m1: &[u16], m2: &[u16]) -> Partition
+    requires { ⌜ (Passed.machineRefusal (now m1) ≡ 0) × (Passed.machineRefusal (now m2) ≡ 0) × (Passed.nodes (now m1) + Passed.nodes (now m2) ≤ 128) ⌝ }
+    ensures { λ r. ⌜ Partitioned (now (m1 .entry)) (now (m2 .entry)) r ⌝ }
+{
+    let mut first = [0u64; 512];
+    let mut second = [0u64; 512];
+    let mut line = [0u16; 256];
+    let mut words = [0u16; 5632];
+    let begun = begin(m1, m2, &mut first, &mut second, &mut line, &mut words);
+    let signalled = by_signals(
+        m1,
+        m2,
+        &mut first,
+        &mut second,
+        &mut line,
+        &mut words,
+        begun,
+    );
+    let owing = Stand {
+        count: signalled.count,
+        lines: signalled.lines,
+        owed: structure::node_row(signalled.count),
+    };
+    let settled = by_nexts(
+        m1,
+        m2,
+        &mut first,
+        &mut second,
+        &mut line,
+        &mut words,
+        owing,
+    );
+    Partition {
+        first: first,
+        second: second,
+        line: line,
+        words: words,
+        count: settled.count,
+        lines: settled.lines,
+    }
+}
