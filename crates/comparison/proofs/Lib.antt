@@ -23,4 +23,9 @@ pub mod DividingBlocks
 pub mod Splitters
 pub mod SettlingBlocks
 pub mod FirstStage
-pub mod PartitionOutcome
+pub mod QuestionTables
+pub mod CompareTable
+pub mod StartBlocks
+pub mod PastedSheet
+pub mod CompareAnswers
+pub mod Decides

@@ -5,3 +5,5 @@ pub mod Blocks
 pub mod Refinement
 pub mod Tables
 pub mod Stages
+pub mod Answers
+pub mod Sides

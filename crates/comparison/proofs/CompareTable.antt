@@ -1,0 +1,97 @@
+-- The questions of comparison, in the parts in which the code asks them: the first machine's, the second's, and those of both and the
+-- space. Where no question refuses, both sheets are accepted, their signals agree, their nodes are few, and the space is enough.
+use mathlib.Core.Path.{_≡_, refl, sym, ap, _∙_}
+use Prim.Native.Nat.{ℕ, _+_, _*_, _≤_, _<_}
+use native.Mathlib.Omega.{arith}
+use mathlib.Core.List.{List, _++_}
+use borrow.Author.Tests.{le-leb, lt-leb, eq-eqb, ne-eqb}
+use lib.Dec.{leb→le, eqb→eq}
+use Rattle.truth.specs.Passed.{Refusal, none as noRefusal, Question, firstNo, nodes, signals, machineQuestions, machineRefusal}
+use Rattle.truth.proofs.Passed.{all-yes, found, none, yes, no}
+use Rattle.comparison.specs.Comparison.{compareQuestions}
+use Rattle.comparison.specs.Answers.{comparisonQuestions}
+use Rattle.comparison.proofs.QuestionTables.{none-found, PutTo, no-sheet, refused-by, asked-on, accepted-by}
+
+module _ (M₁ M₂ : List ℕ) (space : ℕ) where
+  abbrev lastQuestions : List Question
+  lastQuestions = compareQuestions M₁ M₂ space
+
+  abbrev laterQuestions : List Question
+  laterQuestions = machineQuestions 2 M₂ ++ lastQuestions
+
+  abbrev asked : Refusal
+  asked = firstNo (comparisonQuestions M₁ M₂ space)
+
+  last-put : PutTo 0 lastQuestions
+  unfolding compareQuestions
+  last-put = (refl, (refl, (refl, tt)))
+
+  pub by-first : (a : ℕ) → a ≡ machineRefusal M₁ → (a ≡ 0 → ⊥) → (a ≡ asked .number) × (1 ≡ asked .sheet)
+  unfolding comparisonQuestions
+  by-first a e n = refused-by 1 M₁ laterQuestions a e n
+
+  module _ (a : ℕ) (e : a ≡ machineRefusal M₁) (z : a ≡ 0) where
+    after-first : asked ≡ firstNo laterQuestions
+    unfolding comparisonQuestions
+    after-first = asked-on 1 M₁ laterQuestions (sym e ∙ z)
+
+    pub by-second : (b : ℕ) → b ≡ machineRefusal M₂ → (b ≡ 0 → ⊥) → (b ≡ asked .number) × (2 ≡ asked .sheet)
+    by-second b f n = rw after-first (refused-by 2 M₂ lastQuestions b f n)
+
+    pub by-last : (b : ℕ) → b ≡ machineRefusal M₂ → b ≡ 0 → (k : ℕ) → k ≡ firstNo lastQuestions .number → (k ≡ asked .number) × (0 ≡ asked .sheet)
+    by-last b f y k g = rw (after-first ∙ asked-on 2 M₂ lastQuestions (sym f ∙ y)) (g, sym (no-sheet lastQuestions last-put))
+
+  -- ---- the last questions
+
+  abbrev room : ℕ
+  room = 33 + 6 * (signals M₁ + 7 * (nodes M₁ + nodes M₂))
+
+  pub by-signals : (signals M₁ ≡ signals M₂ → ⊥) → 20 ≡ firstNo lastQuestions .number
+  unfolding compareQuestions
+  by-signals n = sym (found lastQuestions (no (ne-eqb (signals M₁) (signals M₂) n)))
+
+  module _ (same : signals M₁ ≡ signals M₂) where
+    pub by-nodes : 128 < nodes M₁ + nodes M₂ → 21 ≡ firstNo lastQuestions .number
+    unfolding compareQuestions
+    by-nodes h = sym (found lastQuestions (yes (eq-eqb (signals M₁) (signals M₂) same) (no (lt-leb (nodes M₁ + nodes M₂) 128 h))))
+
+    pub by-space : nodes M₁ + nodes M₂ ≤ 128 → space < room → 22 ≡ firstNo lastQuestions .number
+    unfolding compareQuestions
+    by-space h l = sym (found lastQuestions (yes (eq-eqb (signals M₁) (signals M₂) same) (yes (le-leb (nodes M₁ + nodes M₂) 128 h) (no (lt-leb room space l)))))
+
+    pub by-none : nodes M₁ + nodes M₂ ≤ 128 → room ≤ space → 0 ≡ firstNo lastQuestions .number
+    unfolding compareQuestions
+    by-none h l = sym (found lastQuestions (yes (eq-eqb (signals M₁) (signals M₂) same) (yes (le-leb (nodes M₁ + nodes M₂) 128 h) (yes (le-leb room space l) none))))
+
+  -- ---- what it says where it refuses nothing
+
+  pub record Compared : Type 0 where
+    pub first : machineRefusal M₁ ≡ 0
+    pub second : machineRefusal M₂ ≡ 0
+    pub same : signals M₁ ≡ signals M₂
+    pub few : nodes M₁ + nodes M₂ ≤ 128
+    pub enough : room ≤ space
+
+  module _ (e : 0 ≡ asked .number) where
+    pub none-refused : noRefusal ≡ asked
+    unfolding comparisonQuestions machineQuestions compareQuestions
+    none-refused = sym (none-found (comparisonQuestions M₁ M₂ space) (omega arith) (sym e))
+
+    pub compared : Compared
+    unfolding comparisonQuestions compareQuestions
+    compared =
+        let one = accepted-by 1 M₁ laterQuestions (sym e) in
+        let later = ap (λ (r : Refusal). r .number) (sym (asked-on 1 M₁ laterQuestions one)) ∙ sym e in
+        let two = accepted-by 2 M₂ lastQuestions later in
+        let last = all-yes lastQuestions (ap (λ (r : Refusal). r .number) (sym (asked-on 2 M₂ lastQuestions two)) ∙ later) in
+        record {
+          first = one;
+          second = two;
+          same = eqb→eq (signals M₁) (signals M₂) (last .0);
+          few = leb→le (nodes M₁ + nodes M₂) 128 (last .1 .0);
+          enough = leb→le room space (last .1 .1 .0);
+        }
+
+  -- and the other way round
+  pub refuses-nothing : Compared → asked .number ≡ 0
+  refuses-nothing k = sym (by-last 0 (sym (k .first)) refl 0 (sym (k .second)) refl 0 (by-none (k .same) (k .few) (k .enough)) .0)

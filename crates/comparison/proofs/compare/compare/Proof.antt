@@ -1,0 +1,98 @@
+-- `compare` meets its contract: the first "no" of the table refuses; else the refinement answers, by the start nodes in its blocks.
+use mathlib.Core.Path.{sym, _∙_}
+use native.Mathlib.Omega.{arith}
+use Rattle.comparison.proofs.CompareAnswers.{refused, known, small, fits, equal-answer, unequal-answer}
+use borrow.Author.Needs.{needs}
+use Rattle.comparison.proofs.compare.compare.Statement.{statement}
+use Rattle.comparison.proofs.compare.compare.Tie as tie
+use Rattle.comparison.proofs.compare.compare.Reads as reads
+use Rattle.comparison.proofs.compare.compare.Lts as lts
+use Rattle.comparison.proofs.compare.compare_refusal.Reads as compare-refusal-reads
+use Rattle.comparison.proofs.compare.one_sided.Reads as one-sided-reads
+use Rattle.comparison.proofs.compare.put_sheet.Reads as put-sheet-reads
+use Rattle.comparison.proofs.refine.refine.Reads as refine-reads
+
+compare-refusal-requires : tie.Need-compare-refusal-requires
+compare-refusal-requires c κs = search needs
+
+returns : tie.Need-returns
+returns c =
+    let a = c .before .before .before .before .before .before .args in
+    let r = c .before .before .compare-refusal in
+    refused (a .m1 .now) (a .m2 .now) (a .space .now) _ _ (r .ensures .0) (r .ensures .1) (c .if1 .taken)
+
+refine-requires : tie.Need-refine-requires
+refine-requires c κs =
+    let a = c .before .before .before .before .before .before .args in
+    let e = sym (c .if1 .left) ∙ c .before .before .compare-refusal .ensures .0 in
+    let k = known (a .m1 .now) (a .m2 .now) (a .space .now) e in
+    (k .first, k .second, k .few)
+
+one-sided-requires : tie.Need-one-sided-requires
+one-sided-requires c κs =
+    let a = c .before .before .before .before .before .before .before .before .before .before .args in
+    let e = sym (c .before .before .before .before .if1 .left) ∙ c .before .before .before .before .before .before .compare-refusal .ensures .0 in
+    let k = small (a .m1 .now) (a .m2 .now) (a .space .now) e in
+    let f = fits (a .m1 .now) (a .m2 .now) (a .space .now) e (c .before .before .before .refine .result) (c .before .before .before .refine .ensures) in
+    (k .0, k .1, omega arith)
+
+returns-2 : tie.Need-returns-2
+returns-2 c =
+    let a = c .before .before .before .before .before .before .before .before .before .before .before .before .args in
+    let e = sym (c .before .before .before .before .before .before .if1 .left) ∙ c .before .before .before .before .before .before .before .before .compare-refusal .ensures .0 in
+    let r = c .before .before .before .before .before .refine in
+    let s = c .before .one-sided in
+    equal-answer (a .m1 .now) (a .m2 .now) (a .space .now) e (r .result) (r .ensures) (s .result) (s .ensures) (c .if2 .taken)
+
+sub-line : tie.Need-sub-line
+sub-line c = search needs
+
+cast-line : tie.Need-cast-line
+cast-line c = search needs
+
+mul-line : tie.Need-mul-line
+mul-line c = search needs
+
+element-copy-out-line : tie.Need-element-copy-out-line
+element-copy-out-line c =
+    let a = c .before .before .before .before .before .before .before .before .before .before .before .before .args in
+    let e = sym (c .before .before .before .before .before .before .if1 .left) ∙ c .before .before .before .before .before .before .before .before .compare-refusal .ensures .0 in
+    let r = c .before .before .before .before .before .refine in
+    let f = fits (a .m1 .now) (a .m2 .now) (a .space .now) e (r .result) (r .ensures) in
+    omega (arith, c .before .one-sided .ensures .low)
+
+put-sheet-requires : tie.Need-put-sheet-requires
+put-sheet-requires c κs =
+    let a = c .before .before .before .before .before .before .before .before .before .before .before .before .before .before .before .before .args in
+    let e = sym (c .before .before .before .before .before .before .before .before .before .before .if1 .left) ∙ c .before .before .before .before .before .before .before .before .before .before .before .before .compare-refusal .ensures .0 in
+    let r = c .before .before .before .before .before .before .before .before .before .refine in
+    let f = fits (a .m1 .now) (a .m2 .now) (a .space .now) e (r .result) (r .ensures) in
+    (f .1, f .2, search needs)
+
+same-length : tie.Need-same-length
+same-length c = search needs
+
+returns-3 : tie.Need-returns-3
+returns-3 c =
+    let a = c .before .before .before .before .before .before .before .before .before .before .before .before .before .before .before .before .before .before .before .args in
+    let e = sym (c .before .before .before .before .before .before .before .before .before .before .before .before .before .if1 .left) ∙ c .before .before .before .before .before .before .before .before .before .before .before .before .before .before .before .compare-refusal .ensures .0 in
+    let r = c .before .before .before .before .before .before .before .before .before .before .before .before .refine in
+    let s = c .before .before .before .before .before .before .before .before .one-sided in
+    unequal-answer (a .m1 .now) (a .m2 .now) (a .space .now) e (r .result) (r .ensures) (s .result) (s .ensures) (c .before .before .before .before .before .before .before .if2 .left) _ (c .before .before .put-sheet .ensures)
+
+pub compare-spec : {M : Type 1} → statement M
+compare-spec =
+    tie.close
+    (tie.spec
+    compare-refusal-requires
+    returns
+    refine-requires
+    one-sided-requires
+    returns-2
+    sub-line
+    cast-line
+    mul-line
+    element-copy-out-line
+    put-sheet-requires
+    same-length
+    returns-3)

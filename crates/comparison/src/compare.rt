@@ -1,0 +1,212 @@
+// The comparison: its questions, its answer, and the rule that tells the two machines apart.
+ghost use mathlib.Core.Path.{_≡_};
+ghost use Prim.Native.Nat.{ℕ, _+_, _-_, _*_, _<_, _≤_};
+ghost use mathlib.Core.Bool.{Bool, not, _&&_};
+ghost use mathlib.Core.List.{List, [], _∷_, _++_};
+ghost use lib.ListN.{length, take, drop};
+ghost use lib.Seq.{paste};
+ghost use Rattle.truth.specs.Passed as Passed;
+ghost use Rattle.truth.specs.Rows.{rowHas, rowsHas};
+ghost use Rattle.comparison.specs.Comparison as Comparison;
+ghost use Rattle.comparison.specs.Lines.{Entry, neg, words, lineWords, head, sheet};
+ghost use Rattle.comparison.specs.Sides.{OneSided};
+ghost use Rattle.comparison.specs.Answers.{comparisonQuestions, CompareAnswer};
+use crate::refine::refine;
+use truth::header;
+use truth::rows::Row;
+use truth::structure;
+use truth::tables::load;
+
+// The answer: refused by a question, with the number of the machine sheet for questions 1 to 6; equal; or unequal.
+pub enum Answer {
+    Refused { question: u16, sheet: u16 },
+    Equal,
+    Unequal,
+}
+
+// The words of a written rule before its lines: the header, of which the number of lines is put in, and the automaton Next.
+const NEXT: [u16; 33] = [
+    1,
+    4,
+    5,
+    0,
+    1,
+    1,
+    0,
+    1,
+    2,
+    0,
+    2,
+    3,
+    1,
+    4,
+    4,
+    0,
+    5,
+    0,
+    2,
+    3,
+    0,
+    3,
+    2,
+    3,
+    4,
+    1,
+    0,
+    3,
+    3,
+    0,
+    4,
+    3,
+    0,
+];
+
+// A refusal by a question, of a machine sheet; question 0 refuses nothing.
+pub struct Refusal {
+    pub question: u16,
+    pub sheet: u16,
+}
+
+// The number of the first of questions 20 to 22 that says no, 0 where none does, for a space of so many words.
+fn last_refusal(m1: &[u16], m2: &[u16], space: usize) -> u16
+    ensures { λ q. ⌜ q ≡ Passed.firstNo (Comparison.compareQuestions (now (m1 .entry)) (now (m2 .entry)) space) .number ⌝ }
+{
+    let a = header::signals(m1);
+    if a != header::signals(m2) {
+        return 20;
+    }
+    let n = header::nodes(m1) as usize + header::nodes(m2) as usize;
+    if n > 128 {
+        return 21;
+    }
+    if space < 33 + 6 * (a as usize + 7 * n) {
+        return 22;
+    }
+    0
+}
+
+// The first question of a comparison that says no, for a space of so many words.
+pub fn compare_refusal(m1: &[u16], m2: &[u16], space: usize) -> Refusal
+    ensures { λ r. ⌜ (r .question ≡ Passed.firstNo (comparisonQuestions (now (m1 .entry)) (now (m2 .entry)) space) .number) × (r .sheet ≡ Passed.firstNo (comparisonQuestions (now (m1 .entry)) (now (m2 .entry)) space) .sheet) ⌝ }
+{
+    let first = header::machine_refusal(m1);
+    if first != 0 {
+        return Refusal {
+            question: first,
+            sheet: 1,
+        };
+    }
+    let second = header::machine_refusal(m2);
+    if second != 0 {
+        return Refusal {
+            question: second,
+            sheet: 2,
+        };
+    }
+    Refusal {
+        question: last_refusal(m1, m2, space),
+        sheet: 0,
+    }
+}
+
+// Whether block c of a machine has a node of the row.
+fn block_has(rows: &[u64; 512], c: u16, x: Row) -> bool
+    requires { ⌜ c < 256 ⌝ }
+    ensures { λ r. ⌜ r ≡ not (Passed.each 128 (λ s. not (rowsHas (now (rows .entry)) c s && rowHas x s))) ⌝ }
+{
+    load(rows, c as usize).meets(x)
+}
+
+// The number, from 1, of a block with a start node of one machine only, or 0.
+fn one_sided<'a>(
+    m1: &[u16],
+    m2: &[u16],
+    first: &'a [u64; 512],
+    second: &'a [u64; 512],
+    count: u16,
+) -> u16
+    requires { ⌜ (Passed.nodes (now m1) ≤ 128) × (Passed.nodes (now m2) ≤ 128) × (count ≤ 256) ⌝ }
+    ensures { λ r. ⌜ OneSided (now (m1 .entry)) (now (m2 .entry)) (rowsHas (now (first .entry))) (rowsHas (now (second .entry))) count r ⌝ }
+{
+    let starts1 = structure::start_row(m1);
+    let starts2 = structure::start_row(m2);
+    let mut c: u16 = 0;
+    while c < count {
+        let has1 = block_has(first, c, starts1);
+        let has2 = block_has(second, c, starts2);
+        c += 1;
+        if has1 != has2 {
+            return c;
+        }
+    }
+    0
+}
+
+// Copies the first n of the words into the space, from word `at` on.
+fn copy(space: &mut [u16], at: usize, words: &[u16], n: usize)
+    requires { ⌜ (at + n ≤ length (now space)) × (n ≤ length (now words)) ⌝ }
+    ensures { λ r. ⌜ now (space .exit) ≡ paste (now (space .entry)) at (now (words .entry)) n ⌝ }
+{
+    let mut i: usize = 0;
+    while i < n {
+        space[at + i] = words[i];
+        i += 1;
+    }
+}
+
+// The words before the lines, for a rule of n lines.
+fn put_head(space: &mut [u16], n: u16)
+    requires { ⌜ 33 ≤ length (now space) ⌝ }
+    ensures { λ r. ⌜ now (space .exit) ≡ head n ++ drop 33 (now (space .entry)) ⌝ }
+{
+    copy(space, 0, &NEXT, 33);
+    space[3] = n;
+}
+
+// The words of n lines.
+fn put_lines(space: &mut [u16], written: &[u16; 5632], n: u16)
+    requires { ⌜ (33 + 6 * n ≤ length (now space)) × (n ≤ 938) × (length (now written) ≡ 5632) ⌝ }
+    ensures { λ r. ⌜ now (space .exit) ≡ paste (now (space .entry)) 33 (now (written .entry)) (6 * n) ⌝ }
+{
+    copy(space, 33, written, 6 * n as usize);
+}
+
+// The line below n lines: not line j.
+fn put_last(space: &mut [u16], n: u16, j: u16)
+    requires { ⌜ 33 + 6 * n + 6 ≤ length (now space) ⌝ }
+    ensures { λ r. ⌜ now (space .exit) ≡ paste (now (space .entry)) (33 + 6 * n) (words (neg j)) 6 ⌝ }
+{
+    let last = [1, j, 0, 0, 0, 0];
+    copy(space, 33 + 6 * n as usize, &last, 6);
+}
+
+// The sheet of n written lines and, below them, not line j.
+fn put_sheet(space: &mut [u16], written: &[u16; 5632], n: u16, j: u16)
+    requires { ⌜ (39 + 6 * n ≤ length (now space)) × (n < 938) × (length (now written) ≡ 5632) ⌝ }
+    ensures { λ r. ⌜ ((ls : List Entry) → length ls ≡ n → take (6 * n) (now (written .entry)) ≡ lineWords ls → now (space .exit) ≡ sheet (ls ++ neg j ∷ []) ++ drop (length (sheet (ls ++ neg j ∷ []))) (now (space .entry))) ⌝ }
+{
+    put_head(space, n + 1);
+    put_lines(space, written, n);
+    put_last(space, n, j);
+}
+
+// Compares two machine sheets. Unequal, a rule that exactly one of them keeps is written at the head of the space; otherwise nothing is.
+pub fn compare(m1: &[u16], m2: &[u16], space: &mut [u16]) -> Answer
+    ensures { λ a. ⌜ CompareAnswer (now (m1 .entry)) (now (m2 .entry)) (now (space .entry)) (now (space .exit)) a ⌝ }
+{
+    let refusal = compare_refusal(m1, m2, space.len());
+    if refusal.question != 0 {
+        return Answer::Refused {
+            question: refusal.question,
+            sheet: refusal.sheet,
+        };
+    }
+    let p = refine(m1, m2);
+    let c = one_sided(m1, m2, &p.first, &p.second, p.count);
+    if c == 0 {
+        return Answer::Equal;
+    }
+    let line = p.line[(c - 1) as usize];
+    put_sheet(space, &p.words, p.lines, line);
+    Answer::Unequal
+}

@@ -1,0 +1,5 @@
+-- The laws of input.
+pub mod WordLists
+pub mod Cuts
+pub mod HeldLines
+pub mod WorkedInput

@@ -1,0 +1,21 @@
+-- The bytes of standard input. Document 01: "The comparing program reads two machine sheets from standard input, low byte first,
+-- at most 20,000 bytes".
+use Prim.Native.Nat.{ℕ, _+_, _*_, _%_}
+use mathlib.Core.List.{List, [], _∷_}
+use mathlib.Core.Bool.{Bool, _&&_}
+use lib.Dec.{leb, eqb}
+
+-- a number of bytes that is taken: "`refused 0 0` for an odd byte count or more than 20,000 bytes"
+unfoldable pub readable : ℕ → Bool
+readable count = leb count 20000 && eqb (count % 2) 0
+
+-- "low byte first"
+unfoldable pub wordOf : ℕ → ℕ → ℕ
+wordOf low high = low + 256 * high
+
+-- the words of the bytes; a last byte without its other half, which no readable count has, makes none
+unfoldable pub wordsOf : List ℕ → List ℕ
+unfolding wordOf
+wordsOf [] = []
+wordsOf (low ∷ []) = []
+wordsOf (low ∷ high ∷ bytes) = wordOf low high ∷ wordsOf bytes

@@ -1,0 +1,4 @@
+// The comparing program's input and output: bytes to words, words to two sheets, an answer to its line.
+pub mod bytes; // bytes.rt: how many bytes are taken, and their words
+pub mod cut; // cut.rt: where the first sheet ends
+pub mod line; // line.rt: what the program says, and the line that it prints
