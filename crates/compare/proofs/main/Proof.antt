@@ -1,0 +1,50 @@
+-- `main` is safe and ends: the line's text is a part of its array.
+use Rattle.input.proofs.HeldLines.{line-part}
+use borrow.Author.Needs.{needs}
+use Rattle.compare.proofs.main.Statement.{statement}
+use Rattle.compare.proofs.main.Tie as tie
+
+slice-aggregate-read-full : tie.Need-slice-aggregate-read-full
+slice-aggregate-read-full c = search needs
+
+read-full-requires : tie.Need-read-full-requires
+read-full-requires c κs = search needs
+
+array-share-prefix-input : tie.Need-array-share-prefix-input
+array-share-prefix-input c = search needs
+
+slice-aggregate-answer : tie.Need-slice-aggregate-answer
+slice-aggregate-answer c = search needs
+
+answer-requires : tie.Need-answer-requires
+answer-requires c κs = search needs
+
+line-of-requires : tie.Need-line-of-requires
+line-of-requires c κs = search needs
+
+array-share-prefix-bytes : tie.Need-array-share-prefix-bytes
+array-share-prefix-bytes c = line-part (c .before .line-of .result) _ (c .before .line-of .ensures) .0
+
+slice-aggregate-write-all : tie.Need-slice-aggregate-write-all
+slice-aggregate-write-all c = line-part (c .before .before .line-of .result) _ (c .before .before .line-of .ensures) .1
+
+write-all-requires : tie.Need-write-all-requires
+write-all-requires c κs = search needs
+
+returns : tie.Need-returns
+returns c = search needs
+
+pub main-spec : {M : Type 1} → statement M
+main-spec =
+    tie.close
+    (tie.spec
+    slice-aggregate-read-full
+    read-full-requires
+    array-share-prefix-input
+    slice-aggregate-answer
+    answer-requires
+    line-of-requires
+    array-share-prefix-bytes
+    slice-aggregate-write-all
+    write-all-requires
+    returns)

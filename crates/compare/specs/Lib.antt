@@ -1,0 +1,2 @@
+-- The definitions of the comparing program.
+pub mod Program
