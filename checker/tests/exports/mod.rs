@@ -4,6 +4,7 @@
 // Each test file calls its own part of these.
 #![allow(dead_code)]
 
+use checker::compare;
 use checker::labelling::Labelling;
 use checker::path::{self, Asked, Pair};
 use checker::refusal::Refusal;
@@ -37,6 +38,16 @@ extern "C" {
         sheet: *mut u16,
         length: *mut u16,
         back: *mut u16,
+    ) -> u16;
+    fn toqshenay_compare(
+        first: *const u16,
+        first_length: usize,
+        second: *const u16,
+        second_length: usize,
+        space: *mut u16,
+        space_length: usize,
+        sheet: *mut u16,
+        unequal: *mut u16,
     ) -> u16;
 }
 
@@ -114,5 +125,28 @@ pub fn path(machine: &[u16], rules: &[u16], asked: Asked, list: &mut [Pair]) -> 
             back: back.into(),
         },
         _ => path::Answer::Refused(Refusal { question, sheet }),
+    }
+}
+
+/// Compares two machines; the rule that tells them apart goes to the space.
+pub fn compare(first: &[u16], second: &[u16], space: &mut [u16]) -> compare::Answer {
+    let (mut sheet, mut unequal) = (0, 0);
+    // SAFETY: addresses and lengths are those of slices and numbers that live through the call.
+    let question = unsafe {
+        toqshenay_compare(
+            first.as_ptr(),
+            first.len(),
+            second.as_ptr(),
+            second.len(),
+            space.as_mut_ptr(),
+            space.len(),
+            &mut sheet,
+            &mut unequal,
+        )
+    };
+    match (question, unequal) {
+        (0, 0) => compare::Answer::Equal,
+        (0, _) => compare::Answer::Unequal,
+        _ => compare::Answer::Refused(Refusal { question, sheet }),
     }
 }

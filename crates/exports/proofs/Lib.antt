@@ -1,3 +1,4 @@
 -- What holds of exports.
 pub mod LabelNumbers
 pub mod PathNumbers
+pub mod CompareNumbers

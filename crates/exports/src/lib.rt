@@ -4,13 +4,16 @@ ghost use Rattle.sheets.specs.Machine.{machineRefusal};
 ghost use Rattle.sheets.specs.Rules.{lent, ruleRefusal};
 ghost use Rattle.truth.specs.Answers.{LabelAnswer};
 ghost use Rattle.truth.specs.PathAnswers.{PathAnswer};
-ghost use Rattle.exports.specs.Numbers.{labelled, shown};
+ghost use Rattle.exports.specs.Numbers.{labelled, shown, compared};
+ghost use Rattle.comparison.specs.Answers.{CompareAnswer};
 use sheets::checks;
 use sheets::checks::Check;
 use truth::labelling;
 use truth::labelling::Labelled;
 use truth::path;
 use truth::path::Shown;
+use comparison::compare;
+use comparison::compare::Answer;
 
 // The question that refuses a machine sheet, 0 where it is accepted.
 #[no_mangle]
@@ -107,6 +110,38 @@ pub extern "C" fn toqshenay_path(
             *sheet = 0;
             *length = l;
             *back = b;
+            0
+        }
+    }
+}
+
+// Compares two machine sheets; where they are unequal, the rule that tells them apart goes to the lent space. The question that
+// refuses, and its sheet, or 0; then 0 where the two are equal and 1 where they are not.
+#[no_mangle]
+pub extern "C" fn toqshenay_compare(
+    m1: &[u16],
+    m2: &[u16],
+    space: &mut [u16],
+    sheet: &mut u16,
+    unequal: &mut u16,
+) -> u16
+    ensures { λ q. ⌜ CompareAnswer (now (m1 .entry)) (now (m2 .entry)) (now (space .entry)) (now (space .exit)) (compared q (now (sheet .exit)) (now (unequal .exit))) ⌝ }
+{
+    let answer = compare::compare(m1, m2, space);
+    match answer {
+        Answer::Refused { question, sheet: s } => {
+            *sheet = s;
+            *unequal = 0;
+            question
+        }
+        Answer::Equal => {
+            *sheet = 0;
+            *unequal = 0;
+            0
+        }
+        Answer::Unequal => {
+            *sheet = 0;
+            *unequal = 1;
             0
         }
     }

@@ -1,0 +1,92 @@
+//! The comparing program, run on whole inputs and on inputs that arrive in small pieces.
+
+use checker::generate::inputs;
+use checker::program::expected_output;
+use checker::rng::Rng;
+use checker::trial;
+use std::io::{Read, Write};
+use std::path::PathBuf;
+use std::process::{Child, Command, Stdio};
+
+const SEED: u64 = 0x7072_6f67_7261_6d01;
+const CASES: u64 = 3_000;
+const SLOW_CASES: u64 = 40;
+
+fn program() -> PathBuf {
+    PathBuf::from(env!("CARGO_MANIFEST_DIR")).join("../target/bin/compare")
+}
+
+fn start() -> Child {
+    Command::new(program())
+        .stdin(Stdio::piped())
+        .stdout(Stdio::piped())
+        .spawn()
+        .expect("target/bin/compare is there once `rt check` has run")
+}
+
+fn finish(mut child: Child) -> Vec<u8> {
+    drop(child.stdin.take());
+    let mut printed = Vec::new();
+    child
+        .stdout
+        .take()
+        .expect("the output is a pipe")
+        .read_to_end(&mut printed)
+        .expect("the output can be read");
+    child.wait().expect("the program ends");
+    printed
+}
+
+/// Hands the input over in pieces of a size. The program stops reading past 20,001 bytes, so that a later write may find the pipe closed.
+fn run_in_pieces(input: &[u8], size: usize) -> Vec<u8> {
+    let mut child = start();
+    let pipe = child.stdin.as_mut().expect("the input is a pipe");
+    for piece in input.chunks(size) {
+        if pipe.write_all(piece).and_then(|()| pipe.flush()).is_err() {
+            break;
+        }
+    }
+    finish(child)
+}
+
+#[test]
+fn whole_inputs() {
+    let seen = trial::program(SEED, CASES, |input| run_in_pieces(input, 65_536));
+    writeln!(std::io::stderr(), "seed {SEED:#x}, {CASES} inputs\n{seen}")
+        .expect("standard error can be written");
+    for line in [
+        "equal",
+        "unequal",
+        "refused 0 0",
+        "refused 1 1",
+        "refused 1 2",
+    ] {
+        seen.require(line, 8);
+    }
+}
+
+#[test]
+fn byte_by_byte() {
+    for case in 0..SLOW_CASES {
+        let input = inputs::any(&mut Rng::for_case(SEED + 1, case));
+        let size = if case % 2 == 0 { 1 } else { 7 };
+        assert_eq!(
+            String::from_utf8_lossy(&run_in_pieces(&input, size)),
+            expected_output(&input),
+            "case {case}, {} bytes in pieces of {size}",
+            input.len()
+        );
+    }
+}
+
+#[test]
+fn sizes_at_the_limit() {
+    for length in [0, 1, 2, 19_999, 20_000, 20_001, 20_002, 70_000] {
+        let input = vec![1u8; length];
+        assert_eq!(
+            String::from_utf8_lossy(&run_in_pieces(&input, 4_096)),
+            expected_output(&input),
+            "{length} bytes"
+        );
+    }
+}
