@@ -1,5 +1,5 @@
 -- What comparison answers: a refusal by the first "no"; else a refinement that nothing splits answers, by the start nodes in its blocks.
-use mathlib.Core.Path.{_≡_, refl, sym}
+use mathlib.Core.Path.{_≡_, refl}
 use Prim.Native.Nat.{ℕ, _+_, _-_, _*_, _≤_, _<_}
 use native.Mathlib.Omega.{arith}
 use mathlib.Core.List.{List, [], _∷_, _++_}
@@ -71,7 +71,7 @@ module _ (M₁ M₂ before : List ℕ) where
         unfolding refusalOf Leaves LinesIn
         unequal-answer n after stands =
             let k = known in
-            let low = s .low in
+            let high = s .high in
             let h : c - 1 < p .count = omega arith in
             let j = getD (p .line) (c - 1) 0 in
             let inside = r .refinement .lines (c - 1) h in

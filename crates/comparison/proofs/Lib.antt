@@ -29,3 +29,7 @@ pub mod StartBlocks
 pub mod PastedSheet
 pub mod CompareAnswers
 pub mod Decides
+pub mod OneBlock
+pub mod ToldByLines
+pub mod MarkedMachines
+pub mod MarkedCases

@@ -1,6 +1,6 @@
 -- Words pasted into the lent space: one word more, and the sheet that its head, its lines and its last line make.
 use mathlib.Core.Path.{_≡_, refl, sym, ap, ap₂, _∙_}
-use Prim.Native.Nat.{ℕ, suc, _+_, _*_, _≤_, _<_}
+use Prim.Native.Nat.{ℕ, _+_, _*_, _≤_, _<_}
 use native.Mathlib.Numerals.{add-one}
 use native.Mathlib.Omega.{arith}
 use mathlib.Core.List.{List, [], _∷_, _++_, append-assoc}
@@ -62,10 +62,6 @@ module _ (S S₁ S₂ S₃ w : List ℕ) (n j : ℕ) (room : 39 + 6 * n ≤ leng
       let after : drop (33 + 6 * n) S₂ ≡ drop (33 + 6 * n) S =
       ap (drop (33 + 6 * n)) h₂ ∙ drop-paste S₁ 33 w (6 * n) (omega (arith, size₁)) size ∙ sym (drop-drop (6 * n) 33 S₁) ∙ ap (drop (6 * n)) past ∙ drop-drop (6 * n) 33 S in
       sym (drop-drop 6 (33 + 6 * n) S₂) ∙ ap (drop 6) after ∙ drop-drop 6 (33 + 6 * n) S ∙ ap (λ (i : ℕ). drop i S) (sym e)
-
-  pub pasted-length : length S₃ ≡ length S
-  unfolding words
-  pasted-length = ap length h₃ ∙ length-paste S₂ (33 + 6 * n) (words (neg j)) 6 (omega (arith, size₂)) (omega arith) ∙ size₂
 
   pub sheet-pasted : (ls : List Entry) → length ls ≡ n → take (6 * n) w ≡ lineWords ls
       → S₃ ≡ sheet (ls ++ neg j ∷ []) ++ drop (length (sheet (ls ++ neg j ∷ []))) S

@@ -8,7 +8,7 @@ use mathlib.Core.List.{List}
 use mathlib.Core.Bool.{Bool, true, false, not, _&&_, Bool·beq}
 use lib.Dec.{T, T-not, not-T, leb, le→leb, eqb}
 use Rattle.truth.specs.Passed.{kripke, nodes, startFlag, each, within}
-use Rattle.truth.proofs.Passed.{and-left, and-right, and-both, surely, within-in, each-at, each-in, find, start-node}
+use Rattle.truth.proofs.Passed.{and-left, and-right, and-both, within-in, each-at, each-in, find, start-node}
 use Rattle.truth.proofs.TableLaws.{true-false}
 use Rattle.comparison.specs.Blocks.{Members, HasStart, OneStart}
 use Rattle.comparison.specs.Sides.{OneSided}
@@ -76,7 +76,7 @@ module _ (M₁ M₂ : List ℕ) (m₁ m₂ : Members) (few₁ : nodes M₁ ≤ 1
   module _ (c : ℕ) (b₁ b₂ : Bool) (e₁ : b₁ ≡ not (each 128 (λ s. not (m₁ c s && x₁ s)))) (e₂ : b₂ ≡ not (each 128 (λ s. not (m₂ c s && x₂ s)))) where
     pub side-found : (count : ℕ) → c < count → not (Bool·beq b₁ b₂) ≡ true → OneSided M₁ M₂ m₁ m₂ count (c + 1)
     side-found count h n = record {
-      low = omega arith;
+      high = omega arith;
       found = λ l.
           let k : c ≡ c + 1 - 1 = omega arith in
           subst (OneStart M₁ M₂ m₁ m₂) k (one-start M₁ M₂ m₁ m₂ c b₁ b₂ (has-start M₁ few₁ x₁ starts₁ m₁ c b₁ e₁) (has-start M₂ few₂ x₂ starts₂ m₂ c b₂ e₂) n);
@@ -90,4 +90,4 @@ module _ (M₁ M₂ : List ℕ) (m₁ m₂ : Members) (few₁ : nodes M₁ ≤ 1
         subst (λ (b : ℕ). HasStart M₁ m₁ b ↔ HasStart M₂ m₂ b) k (agree b₁ b₂ (has-start M₁ few₁ x₁ starts₁ m₁ c b₁ e₁) (has-start M₂ few₂ x₂ starts₂ m₂ c b₂ e₂) n))
 
 pub side-none : (M₁ M₂ : List ℕ) (m₁ m₂ : Members) (count c : ℕ) → count ≤ c → ((b : ℕ) → b < c → HasStart M₁ m₁ b ↔ HasStart M₂ m₂ b) → OneSided M₁ M₂ m₁ m₂ count 0
-side-none M₁ M₂ m₁ m₂ count c h all = record { low = omega arith; found = λ l. absurd (omega arith); none = λ z b l. all b (omega arith) }
+side-none M₁ M₂ m₁ m₂ count c h all = record { high = omega arith; found = λ l. absurd (omega arith); none = λ z b l. all b (omega arith) }

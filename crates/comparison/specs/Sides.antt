@@ -7,6 +7,6 @@ use Rattle.comparison.specs.Blocks.{Members, HasStart, OneStart}
 
 -- r is the number, from 1, of a block with a start node of one machine only, or 0 where each block has one of both or of neither
 pub record OneSided (M₁ M₂ : List ℕ) (m₁ m₂ : Members) (count r : ℕ) : Type 0 where
-  pub low : r ≤ count
+  pub high : r ≤ count
   pub found : 1 ≤ r → OneStart M₁ M₂ m₁ m₂ (r - 1)
   pub none : r ≡ 0 → (c : ℕ) → c < count → HasStart M₁ m₁ c ↔ HasStart M₂ m₂ c

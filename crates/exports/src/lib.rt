@@ -6,14 +6,14 @@ ghost use Rattle.truth.specs.Answers.{LabelAnswer};
 ghost use Rattle.truth.specs.PathAnswers.{PathAnswer};
 ghost use Rattle.exports.specs.Numbers.{labelled, shown, compared};
 ghost use Rattle.comparison.specs.Answers.{CompareAnswer};
+use comparison::compare;
+use comparison::compare::Answer;
 use sheets::checks;
 use sheets::checks::Check;
 use truth::labelling;
 use truth::labelling::Labelled;
 use truth::path;
 use truth::path::Shown;
-use comparison::compare;
-use comparison::compare::Answer;
 
 // The question that refuses a machine sheet, 0 where it is accepted.
 #[no_mangle]

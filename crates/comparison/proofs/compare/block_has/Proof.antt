@@ -6,10 +6,6 @@ use Rattle.truth.proofs.TableLoops.{loaded}
 use borrow.Author.Needs.{needs}
 use Rattle.comparison.proofs.compare.block_has.Statement.{statement}
 use Rattle.comparison.proofs.compare.block_has.Tie as tie
-use Rattle.comparison.proofs.compare.block_has.Reads as reads
-use Rattle.comparison.proofs.compare.block_has.Lts as lts
-use Rattle.truth.proofs.rows.Row.meets.Reads as meets-reads
-use Rattle.truth.proofs.tables.load.Reads as load-reads
 
 load-requires : tie.Need-load-requires
 load-requires c κs = search needs

@@ -5,12 +5,6 @@ use Rattle.comparison.proofs.CompareAnswers.{refused, known, small, fit
 use borrow.Author.Needs.{needs}
 use Rattle.comparison.proofs.compare.compare.Statement.{statement}
 use Rattle.comparison.proofs.compare.compare.Tie as tie
-use Rattle.comparison.proofs.compare.compare.Reads as reads
-use Rattle.comparison.proofs.compare.compare.Lts as lts
-use Rattle.comparison.proofs.compare.compare_refusal.Reads as compare-refusal-reads
-use Rattle.comparison.proofs.compare.one_sided.Reads as one-sided-reads
-use Rattle.comparison.proofs.compare.put_sheet.Reads as put-sheet-reads
-use Rattle.comparison.proofs.refine.refine.Reads as refine-reads
 
 compare-refusal-requires : tie.Need-compare-refusal-requires
 compare-refusal-requires c κs = search needs
@@ -59,7 +53,7 @@ element-copy-out-line c =
     let e = sym (c .before .before .before .before .before .before .if1 .left) ∙ c .before .before .before .before .before .before .before .before .compare-refusal .ensures .0 in
     let r = c .before .before .before .before .before .refine in
     let f = fits (a .m1 .now) (a .m2 .now) (a .space .now) e (r .result) (r .ensures) in
-    omega (arith, c .before .one-sided .ensures .low)
+    omega (arith, c .before .one-sided .ensures .high)
 
 put-sheet-requires : tie.Need-put-sheet-requires
 put-sheet-requires c κs =

@@ -1,5 +1,5 @@
 -- `copy` meets its contract. The invariant: i words are pasted in, and the space is as long as it was. The measure is the words left.
-use mathlib.Core.Path.{_≡_, refl, sym, _∙_}
+use mathlib.Core.Path.{_≡_, refl}
 use Prim.Native.Nat.{_-_, _≤_}
 use native.Mathlib.Omega.{arith}
 use lib.ListN.{length, length-set}
@@ -8,8 +8,6 @@ use Rattle.comparison.proofs.PastedSheet.{pasted}
 use borrow.Author.Needs.{needs}
 use Rattle.comparison.proofs.compare.copy.Statement.{statement}
 use Rattle.comparison.proofs.compare.copy.Tie as tie
-use Rattle.comparison.proofs.compare.copy.Reads as reads
-use Rattle.comparison.proofs.compare.copy.Lts as lts
 
 abbrev Inv-loop : tie.InvT-loop
 Inv-loop space₀ at words n i₀ space i = (i ≤ n) × (length space ≡ length space₀) × (space ≡ paste space₀ at words i)

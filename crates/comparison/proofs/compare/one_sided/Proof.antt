@@ -9,10 +9,6 @@ use Rattle.comparison.specs.Blocks.{HasStart}
 use borrow.Author.Needs.{needs}
 use Rattle.comparison.proofs.compare.one_sided.Statement.{statement}
 use Rattle.comparison.proofs.compare.one_sided.Tie as tie
-use Rattle.comparison.proofs.compare.one_sided.Reads as reads
-use Rattle.comparison.proofs.compare.one_sided.Lts as lts
-use Rattle.comparison.proofs.compare.block_has.Reads as block-has-reads
-use Rattle.truth.proofs.structure.start_row.Reads as start-row-reads
 
 abbrev Inv-loop : tie.InvT-loop
 Inv-loop m1 m2 first second count starts1 starts2 c₀ c = (c ≤ count) × ((b : ℕ) → b < c → HasStart m1 (rowsHas first) b ↔ HasStart m2 (rowsHas second) b)
