@@ -1,4 +1,4 @@
--- What holds of sheets: general lemmas first, then chains, the loops of the code, accepted sheets, question 14's walks, worked sheets.
+-- What holds of sheets: general lemmas first, then chains, the loops of the code, accepted sheets, question 14's walks, worked sheets, and the calls of the walker.
 pub mod Tests
 pub mod Search
 pub mod Pigeonhole
@@ -26,3 +26,5 @@ pub mod Walks
 pub mod Positions
 pub mod ReachedPositions
 pub mod WorkedSheets
+pub mod ChainParameters
+pub mod WalkerCalls

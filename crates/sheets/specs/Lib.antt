@@ -6,6 +6,7 @@ pub mod Machine
 pub mod Rules
 pub mod Cycles
 pub mod Records
+pub mod Walkers
 pub mod Positions
 pub mod Lines
 pub mod Answers

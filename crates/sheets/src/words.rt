@@ -5,6 +5,7 @@ ghost use Prim.Native.Nat.{ℕ, _+_, _-_, _*_, _^_};
 ghost use lib.Dec.{ltb};
 ghost use Rattle.sheets.specs.Words as Words;
 ghost use Rattle.sheets.specs.Records.{recordWord, stepAt};
+use crate::walker;
 
 // The word at an index; past the end it is 0.
 pub fn word(ws: &[u16], i: usize) -> u16
@@ -67,21 +68,10 @@ pub enum Step {
     End,
 }
 
-// The record of a number among records of `width` words from `base` on. Every chain is read by this function.
+// The record of a number among records of `width` words from `base` on: what a walker placed at that number hands out. Every chain is
+// read by this function.
 pub fn chain_record(ws: &[u16], base: u32, width: u16, at: u16) -> Step
     ensures { λ r. ⌜ r ≡ stepAt (recordWord (now (ws .entry)) base width) width at ⌝ }
 {
-    if at == 0 {
-        return Step::End;
-    }
-    let place = (base as usize) + (width as usize) * monus(at as usize, 1);
-    let first = word(ws, place);
-    let second = word(ws, place + 1);
-    let next = word(ws, place + monus(width as usize, 1));
-    Step::Record {
-        number: at,
-        first: first,
-        second: second,
-        next: next,
-    }
+    walker::record(walker::new(ws, base, width, at))
 }
