@@ -4,7 +4,10 @@ mod exports;
 
 use checker::generate::pairs::{self, Scale};
 use checker::labelling::Labelling;
+use checker::path::{self, Asked};
 use checker::rng::Rng;
+use checker::rules::Line;
+use checker::truth::Model;
 use std::thread::Builder;
 
 const STACK: usize = 128 * 1024;
@@ -28,4 +31,24 @@ fn labelling_fits() {
         exports::label(&machine, &rules, &mut rows)
     });
     assert!(matches!(answer, Labelling::Done { .. }), "{answer:?}");
+}
+
+#[test]
+fn a_path_fits() {
+    let (machine, rules) = pairs::valid(&mut Rng::for_case(SEED, 0), Scale::Full);
+    let model = Model::read(&machine, &rules).expect("the sheets are valid");
+    let lines = model.rules.lines.iter().zip(&model.truth).enumerate();
+    let (line, node) = lines
+        .filter(|(_, (line, _))| matches!(line, Line::SomePath { .. }))
+        .find_map(|(line, (_, row))| Some((1 + line, 1 + row.iter().position(|&holds| holds)?)))
+        .expect("some path line is true somewhere");
+    let asked = Asked {
+        line: line as u64,
+        node: node as u64,
+    };
+    let answer = with_little_stack(move || {
+        let mut list = vec![(0, 0); 2_048];
+        exports::path(&machine, &rules, asked, &mut list)
+    });
+    assert!(matches!(answer, path::Answer::Shown { .. }), "{answer:?}");
 }

@@ -100,35 +100,42 @@ module _ (M R : List ℕ) (j s room q : ℕ) (e : q ≡ firstNo (pathQuestions M
         no-path list names n = record { refusal = none-asked; made = λ t. subst T (not-true b n) (row-true .1 (rw ek t)) }
 
         -- it has the node
-        module _ (found : not b ≡ false) (x op : ℕ) (ex : x ≡ lineWord lent R k 1) (eo : op ≡ lineWord lent R k 0) where
-          kind : lineWord lent R k 0 ≡ operation (eqb op 4)
-          kind = rw eo (operated (lineWord lent R k 0) path-line)
+        module _ (found : not b ≡ false) (x op : ℕ) (ex : x ≡ lineWord lent R k 1) (eo : op ≡ lineWord lent R k 0) (exchanged : Bool)
+            (ee : eqb op 4 ≡ exchanged) where
+          kind : lineWord lent R k 0 ≡ operation exchanged
+          kind = rw (← ee, eo) (operated (lineWord lent R k 0) path-line)
 
           line-true : TrueAt lent M R k s
           line-true = row-true .0 (subst T (sym (not-false b found)) tt)
 
-          pub show-ready : (next back : List ℕ) → length rows ≡ 2048 → Ready M R next back
-              → PathReady M R next back rows k x × ((1 ≤ s) × ((s ≤ nodes M) × Holds M R rows k x (eqb op 4) s))
-          show-ready next back size ready =
-              let r = path-refers M R machine-accepted rules-accepted k (line-in .0) (line-in .1) (eqb op 4) kind in
+          pub show-ready : length rows ≡ 2048
+              → (machineRefusal M ≡ 0) × ((ruleRefusal lent R ≡ 0) × ((next back : List ℕ) → Ready M R next back → PathReady M R next back rows k x × ((1 ≤ s) × ((s ≤ nodes M) × Holds M R rows k x exchanged s))))
+          show-ready size =
+              let r = path-refers M R machine-accepted rules-accepted k (line-in .0) (line-in .1) exchanged kind in
               let fit = rows-fit R rules-accepted in
               let in-lines = line-in .1 in (
-                record {
-                  ready = ready;
-                  from = rw ex (r .0 .0);
-                  to = rw ex (r .0 .1);
-                  arguments = λ i l. let a = r .1 i (rw ex at l) in (a .0, omega (arith, a .1));
-                },
+                machine-accepted,
                 (
-                  node-in .0,
-                  (
-                    node-in .1,
-                    rw ex (holds-true M R machine-accepted rules-accepted k (line-in .0) (line-in .1) (eqb op 4) kind before rows written s (node-in .0) (node-in .1) .1 line-true),
+                  rules-accepted,
+                  λ next back ready. (
+                    record {
+                      ready = ready;
+                      from = rw ex (r .0 .0);
+                      to = rw ex (r .0 .1);
+                      arguments = λ i l. let a = r .1 i (rw ex at l) in (a .0, omega (arith, a .1));
+                    },
+                    (
+                      node-in .0,
+                      (
+                        node-in .1,
+                        rw ex (holds-true M R machine-accepted rules-accepted k (line-in .0) (line-in .1) exchanged kind before rows written s (node-in .0) (node-in .1) .1 line-true),
+                      ),
+                    ),
                   ),
                 ),
               )
 
-          pub shown : (list names : List ℕ) (answer : Shown) → ShowsLine M R rows k x (eqb op 4) s list names answer → MadeFor M R j s room list names answer
+          pub shown : (list names : List ℕ) (answer : Shown) → ShowsLine M R rows k x exchanged s list names answer → MadeFor M R j s room list names answer
           unfolding refusalOf MadePath
           shown list names answer sl =
               rw (sl .answered) (record {
@@ -136,7 +143,7 @@ module _ (M R : List ℕ) (j s room q : ℕ) (e : q ≡ firstNo (pathQuestions M
                 made = (
                   rw (← ek) line-true,
                   rw (← ek)
-                      (list-true M R machine-accepted rules-accepted k (line-in .0) (line-in .1) (eqb op 4) kind before rows written s (node-in .0) (node-in .1)
+                      (list-true M R machine-accepted rules-accepted k (line-in .0) (line-in .1) exchanged kind before rows written s (node-in .0) (node-in .1)
                       (placed list) (placed names) (sl .len) (sl .back) (rw ex at (sl .lasso))),
                   omega (arith, rw ex at (sl .fits), room-enough),
                 );

@@ -1,12 +1,14 @@
 // The path call: a list of nodes and states that shows a path for a true path line at a node.
 ghost use mathlib.Core.Path.{_≡_};
+ghost use mathlib.Core.Bool.{_&&_};
 ghost use Prim.Native.Nat.{ℕ, _+_, _-_, _*_, min, _<_, _≤_};
-ghost use mathlib.Core.List.{_++_};
+ghost use mathlib.Core.List.{List, _++_};
 ghost use lib.ListN.{length, getD, take, drop};
 ghost use Rattle.sheets.specs.Questions.{firstNo};
+ghost use Rattle.sheets.specs.Words.{within};
 ghost use Rattle.sheets.specs.Machine as Machine;
 ghost use Rattle.sheets.specs.Rules as Rules;
-ghost use Rattle.truth.specs.OneLine.{PathReady};
+ghost use Rattle.truth.specs.OneLine.{Ready, PathReady};
 ghost use Rattle.truth.specs.Rows.{rowsHas};
 ghost use Rattle.truth.specs.Product.{good, stateAt};
 ghost use Rattle.truth.specs.Lists.{Lasso};
@@ -34,11 +36,12 @@ pub enum Shown {
     Path { length: u16, back: u16 },
 }
 
-// A list that was made, and the answer.
+// A list that was made, and the answer; a node fits a byte. The answer stands between the arrays: so each of them is moved by itself,
+// and the stack needs no copy of the whole.
 pub struct Made {
-    pub nodes: [u16; 2048],
-    pub states: [u16; 2048],
+    pub nodes: [u8; 2048],
     pub answer: Shown,
+    pub states: [u16; 2048],
 }
 
 // Line 0 means the last line.
@@ -94,15 +97,15 @@ pub fn q19(m: &[u16], r: &[u16], line: u16, room: usize) -> bool
     n * t <= room
 }
 
-// The states at the first `count` positions of the list, by their record numbers.
+// The states at the first `count` positions of the list, by their record numbers, in the positions' place.
 pub fn named(states: [u16; 16], positions: [u16; 2048], count: u16) -> [u16; 2048]
     requires { ⌜ (count ≤ 2048) × ((i : ℕ) → i < count → getD positions i 0 < 16) ⌝ }
     ensures { λ a. ⌜ ((i : ℕ) → i < count → getD a i 0 ≡ getD states (getD positions i 0) 0) ⌝ }
 {
-    let mut out = [0u16; 2048];
+    let mut out = positions;
     let mut i: u16 = 0;
     while i < count {
-        let p = positions[i as usize];
+        let p = out[i as usize];
         out[i as usize] = states[p as usize];
         i += 1;
     }
@@ -127,23 +130,55 @@ pub fn show(
     let solved = solve(m, r, next, back, rows, j, x, exchanged);
     let t = automata::chain_length(r, x);
     let n = machine::nodes(m);
-    let allow = solved.allow;
-    let lasting = solved.lasting;
-    let reached = solved.reached;
-    let times = solved.times;
-    let found = walk(&allow, next, t as usize, n, &lasting, &reached, &times, s);
+    let found = walk(
+        &solved.allow,
+        next,
+        t as usize,
+        n,
+        &solved.lasting,
+        &solved.reached,
+        &solved.times,
+        s,
+    );
     let positions = found.positions;
     let length = found.length;
     let states = named(chain_states(r, x, t), positions, length);
     let nodes = found.nodes;
     Made {
         nodes: nodes,
-        states: states,
         answer: Shown::Path {
             length: length,
             back: found.back,
         },
+        states: states,
     }
+}
+
+// The same with the successors of the nodes alone: their predecessors are found here.
+fn show_with(
+    m: &[u16],
+    r: &[u16],
+    next: &[u64; 512],
+    rows: &[u64],
+    j: u16,
+    x: u16,
+    exchanged: bool,
+    s: u16,
+) -> Made
+    requires { ⌜ (Machine.machineRefusal (now m) ≡ 0) × ((Rules.ruleRefusal Rules.lent (now r) ≡ 0) × (((s t : ℕ) → 1 ≤ s → s ≤ Machine.nodes (now m) → s ≤ 256 → rowsHas (now next) (s - 1) t ≡ (within 1 128 t && Machine.kripke (now m) .edge s t)) × ((next back : List ℕ) → Ready (now m) (now r) next back → (PathReady (now m) (now r) next back (now rows) j x) × ((1 ≤ s) × ((s ≤ Machine.nodes (now m)) × Holds (now m) (now r) (now rows) j x exchanged s))))) ⌝ }
+    ensures { λ a. ⌜ ShowsLine (now (m .entry)) (now (r .entry)) (now (rows .entry)) j x exchanged s (a .nodes) (a .states) (a .answer) ⌝ }
+{
+    let back = structure::predecessors(next, machine::nodes(m));
+    show(m, r, next, &back, rows, j, x, exchanged, s)
+}
+
+// The same with neither table. `make` calls it at two places, so that it keeps a frame of its own, and labelling runs without that.
+fn show_line(m: &[u16], r: &[u16], rows: &[u64], j: u16, x: u16, exchanged: bool, s: u16) -> Made
+    requires { ⌜ (Machine.machineRefusal (now m) ≡ 0) × ((Rules.ruleRefusal Rules.lent (now r) ≡ 0) × ((next back : List ℕ) → Ready (now m) (now r) next back → (PathReady (now m) (now r) next back (now rows) j x) × ((1 ≤ s) × ((s ≤ Machine.nodes (now m)) × Holds (now m) (now r) (now rows) j x exchanged s)))) ⌝ }
+    ensures { λ a. ⌜ ShowsLine (now (m .entry)) (now (r .entry)) (now (rows .entry)) j x exchanged s (a .nodes) (a .states) (a .answer) ⌝ }
+{
+    let next = structure::successors(m);
+    show_with(m, r, &next, rows, j, x, exchanged, s)
 }
 
 // Labels the lines and makes the list, or says why there is none.
@@ -153,12 +188,12 @@ pub fn make(m: &[u16], r: &[u16], line: u16, node: u16, room: usize) -> Made
     let question = path_refusal(m, r, line, node, room);
     if question != 0 {
         return Made {
-            nodes: [0u16; 2048],
-            states: [0u16; 2048],
+            nodes: [0u8; 2048],
             answer: Shown::Refused {
                 question: question,
                 sheet: sheet_of(question),
             },
+            states: [0u16; 2048],
         };
     }
     let j = asked(r, line);
@@ -167,22 +202,41 @@ pub fn make(m: &[u16], r: &[u16], line: u16, node: u16, room: usize) -> Made
     let row = line_row(&rows, j as usize);
     if !row.has(node) {
         return Made {
-            nodes: [0u16; 2048],
-            states: [0u16; 2048],
+            nodes: [0u8; 2048],
             answer: Shown::NoPath,
+            states: [0u16; 2048],
         };
     }
-    let next = structure::successors(m);
-    let back = structure::predecessors(&next, machine::nodes(m));
     let x = rules::line_word(r, j, 1);
-    let exchanged = rules::line_word(r, j, 0) == 4;
-    show(m, r, &next, &back, &rows, j, x, exchanged, node)
+    if rules::line_word(r, j, 0) == 4 {
+        return show_line(m, r, &rows, j, x, true, node);
+    }
+    show_line(m, r, &rows, j, x, false, node)
+}
+
+// A byte as a word.
+fn wide(x: u8) -> u16
+    ensures { λ r. ⌜ r ≡ x ⌝ }
+{
+    x as u16
+}
+
+// Writes the first `count` nodes to the list.
+pub fn write_nodes(list: &mut [u16], from: &[u8; 2048], count: u16)
+    requires { ⌜ (count ≤ 2048) × (length (now from) ≡ 2048) × (count ≤ length (now list)) ⌝ }
+    ensures { λ u. ⌜ now (list .exit) ≡ take count (now (from .entry)) ++ drop count (now (list .entry)) ⌝ }
+{
+    let mut i: u16 = 0;
+    while i < count {
+        list[i as usize] = wide(from[i as usize]);
+        i += 1;
+    }
 }
 
 // Writes the first `count` numbers to the list.
-pub fn write_first(list: &mut [u16], from: [u16; 2048], count: u16)
-    requires { ⌜ (count ≤ 2048) × (count ≤ length (now list)) ⌝ }
-    ensures { λ u. ⌜ now (list .exit) ≡ take count from ++ drop count (now (list .entry)) ⌝ }
+pub fn write_first(list: &mut [u16], from: &[u16; 2048], count: u16)
+    requires { ⌜ (count ≤ 2048) × (length (now from) ≡ 2048) × (count ≤ length (now list)) ⌝ }
+    ensures { λ u. ⌜ now (list .exit) ≡ take count (now (from .entry)) ++ drop count (now (list .entry)) ⌝ }
 {
     let mut i: u16 = 0;
     while i < count {
@@ -228,9 +282,7 @@ pub fn path(
     let made = make(m, r, line, node, room);
     let answer = made.answer;
     let count = length_of(answer);
-    let shown_nodes = made.nodes;
-    let shown_states = made.states;
-    write_first(nodes, shown_nodes, count);
-    write_first(states, shown_states, count);
+    write_nodes(nodes, &made.nodes, count);
+    write_first(states, &made.states, count);
     answer
 }

@@ -11,10 +11,11 @@ use crate::rows::Row;
 use crate::tables::load;
 
 // The pairs of the list, by node and position, their number, and the place that the last one goes back to; places count from 1.
+// A node fits a byte. The number stands between the arrays, so that each of them is moved by itself.
 pub struct Trail {
-    pub nodes: [u16; 2048],
-    pub positions: [u16; 2048],
+    pub nodes: [u8; 2048],
     pub length: u16,
+    pub positions: [u16; 2048],
     pub back: u16,
 }
 
@@ -126,23 +127,23 @@ fn advance(
 }
 
 // From the pair (0, s) on each pair is listed, until one comes that is listed already.
-pub fn walk(
-    allow: &[u64; 512],
+pub fn walk<'a>(
+    allow: &'a [u64; 512],
     next: &[u64; 512],
     t: usize,
     n: u16,
-    xs: &[u64; 512],
-    ys: &[u64; 512],
-    times: &[u16; 2048],
+    xs: &'a [u64; 512],
+    ys: &'a [u64; 512],
+    times: &'a [u16; 2048],
     s: u16,
 ) -> Trail
     requires { ⌜ Walkable (now allow) (now next) t n (now xs) (now ys) (now times) s ⌝ }
     ensures { λ r. ⌜ Looped (now (allow .entry)) (now (next .entry)) t n (now (xs .entry)) s (placed (r .nodes)) (placed (r .positions)) (r .length) (r .back) ⌝ }
 {
-    let mut nodes = [0u16; 2048];
+    let mut nodes = [0u8; 2048];
     let mut positions = [0u16; 2048];
     let mut places = [0u16; 2048];
-    nodes[0] = s;
+    nodes[0] = s as u8;
     places[s as usize - 1] = 1;
     let mut len: u16 = 1;
     let mut p: u16 = 0;
@@ -156,12 +157,12 @@ pub fn walk(
         if back != 0 {
             return Trail {
                 nodes: nodes,
-                positions: positions,
                 length: len,
+                positions: positions,
                 back: back,
             };
         }
-        nodes[len as usize] = u;
+        nodes[len as usize] = u as u8;
         positions[len as usize] = p;
         len += 1;
         places[at] = len;

@@ -1,12 +1,12 @@
 -- `make` meets its contract: the first "no" of the table refuses; where none does, the row of the asked line says whether there is a path to show.
 use borrow.Author.Needs.{needs}
 use mathlib.Core.Path.{_≡_}
+use mathlib.Core.Bool.{true, false}
+use borrow.Author.Tests.{eq-eqb, ne-eqb}
 use native.Mathlib.Omega.{arith}
 use lib.ListN.{length}
 use Rattle.sheets.specs.Machine.{machineRefusal}
 use Rattle.sheets.specs.Rules.{lent, ruleRefusal}
-use Rattle.sheets.proofs.AcceptedMachine.{nodes-sized}
-use Rattle.truth.proofs.ReadyTables.{ready}
 use Rattle.truth.proofs.PathMade.{rows-fit, refused, machine-accepted, rules-accepted, line-in, no-path, show-ready, shown}
 use Rattle.truth.proofs.path.make.Statement.{statement}
 use Rattle.truth.proofs.path.make.Tie as tie
@@ -69,52 +69,61 @@ returns-2 c =
     no-path (a .m .now) (a .r .now) (a .line) (a .node) (a .room) _ (accepted .before .path-refusal .ensures) (accepted .if1 .left) _ (labelled .before .before .asked .ensures)
     _ _ (labelled .label-lines .ensures) _ _ (row .ensures .0) (row .ensures .1) _ (c .before .has .ensures) _ _ (c .if2 .taken)
 
-successors-requires : tie.Need-successors-requires
-successors-requires c κs = search needs
-
-nodes-requires : tie.Need-nodes-requires
-nodes-requires c κs = search needs
-
-predecessors-requires : tie.Need-predecessors-requires
-predecessors-requires c κs =
-    let accepted = c .before .before .before .before .before .before .before .before .before .before .before in
-    let a = accepted .before .before .before .before .args in
-    omega (arith, c .nodes .ensures, nodes-sized (a .m .now) (machine accepted) .1)
-
 line-word-requires : tie.Need-line-word-requires
 line-word-requires c κs = search needs
 
 line-word-requires-2 : tie.Need-line-word-requires-2
 line-word-requires-2 c κs = search needs
 
-slice-aggregate-show : tie.Need-slice-aggregate-show
-slice-aggregate-show c = search needs
+slice-aggregate-show-line : tie.Need-slice-aggregate-show-line
+slice-aggregate-show-line c = search needs
 
-show-requires : tie.Need-show-requires
-show-requires c κs =
-    let worded = c .before .before .before in
-    let tables = worded .before .before in
-    let has = tables .before .before .before .before .before in
-    let row = has .before .line-row in
+show-line-requires : tie.Need-show-line-requires
+show-line-requires c κs =
+    let worded = c .before .before in
+    let has = worded .before .before .before in
     let labelled = has .before .before .before .before in
     let accepted = labelled .before .before .before in
     let a = accepted .before .before .before .before .args in
     show-ready (a .m .now) (a .r .now) (a .line) (a .node) (a .room) _ (accepted .before .path-refusal .ensures) (accepted .if1 .left) _ (labelled .before .before .asked .ensures)
-    _ _ (labelled .label-lines .ensures) _ _ (row .ensures .0) (row .ensures .1) _ (has .has .ensures) (tables .before .before .before .before .if2 .left)
-    _ _ (worded .before .line-word .ensures) (worded .line-word2 .ensures) _ _ (labelled .label-lines .ensures .size)
-    (ready (a .m .now) (a .r .now) _ _ _ (tables .before .nodes .ensures) (machine accepted) (rules accepted) (tables .before .before .before .successors .ensures) (tables .predecessors .ensures))
+    _ _ (labelled .label-lines .ensures) _ _ (has .before .line-row .ensures .0) (has .before .line-row .ensures .1) _ (has .has .ensures) (worded .before .before .if2 .left)
+    _ _ (worded .before .line-word .ensures) (worded .line-word2 .ensures) true (eq-eqb _ _ (c .before .if3 .taken)) (labelled .label-lines .ensures .size)
 
 returns-3 : tie.Need-returns-3
 returns-3 c =
-    let worded = c .before .before .before .before in
-    let has = worded .before .before .before .before .before .before .before in
-    let row = has .before .line-row in
+    let worded = c .before .before .before in
+    let has = worded .before .before .before in
     let labelled = has .before .before .before .before in
     let accepted = labelled .before .before .before in
     let a = accepted .before .before .before .before .args in
     shown (a .m .now) (a .r .now) (a .line) (a .node) (a .room) _ (accepted .before .path-refusal .ensures) (accepted .if1 .left) _ (labelled .before .before .asked .ensures)
-    _ _ (labelled .label-lines .ensures) _ _ (row .ensures .0) (row .ensures .1) _ (has .has .ensures) (worded .before .before .before .before .before .before .if2 .left)
-    _ _ (worded .before .line-word .ensures) (worded .line-word2 .ensures) _ _ _ (c .show .ensures)
+    _ _ (labelled .label-lines .ensures) _ _ (has .before .line-row .ensures .0) (has .before .line-row .ensures .1) _ (has .has .ensures) (worded .before .before .if2 .left)
+    _ _ (worded .before .line-word .ensures) (worded .line-word2 .ensures) true (eq-eqb _ _ (c .before .before .if3 .taken)) _ _ _ (c .show-line .ensures)
+
+slice-aggregate-show-line-2 : tie.Need-slice-aggregate-show-line-2
+slice-aggregate-show-line-2 c = search needs
+
+show-line-requires-2 : tie.Need-show-line-requires-2
+show-line-requires-2 c κs =
+    let worded = c .before .before in
+    let has = worded .before .before .before in
+    let labelled = has .before .before .before .before in
+    let accepted = labelled .before .before .before in
+    let a = accepted .before .before .before .before .args in
+    show-ready (a .m .now) (a .r .now) (a .line) (a .node) (a .room) _ (accepted .before .path-refusal .ensures) (accepted .if1 .left) _ (labelled .before .before .asked .ensures)
+    _ _ (labelled .label-lines .ensures) _ _ (has .before .line-row .ensures .0) (has .before .line-row .ensures .1) _ (has .has .ensures) (worded .before .before .if2 .left)
+    _ _ (worded .before .line-word .ensures) (worded .line-word2 .ensures) false (ne-eqb _ _ (c .before .if3 .left)) (labelled .label-lines .ensures .size)
+
+returns-4 : tie.Need-returns-4
+returns-4 c =
+    let worded = c .before .before .before in
+    let has = worded .before .before .before in
+    let labelled = has .before .before .before .before in
+    let accepted = labelled .before .before .before in
+    let a = accepted .before .before .before .before .args in
+    shown (a .m .now) (a .r .now) (a .line) (a .node) (a .room) _ (accepted .before .path-refusal .ensures) (accepted .if1 .left) _ (labelled .before .before .asked .ensures)
+    _ _ (labelled .label-lines .ensures) _ _ (has .before .line-row .ensures .0) (has .before .line-row .ensures .1) _ (has .has .ensures) (worded .before .before .if2 .left)
+    _ _ (worded .before .line-word .ensures) (worded .line-word2 .ensures) false (ne-eqb _ _ (c .before .before .if3 .left)) _ _ _ (c .show-line2 .ensures)
 
 pub make-spec : {M : Type 1} → statement M
 make-spec =
@@ -131,11 +140,11 @@ make-spec =
     line-row-requires
     has-requires
     returns-2
-    successors-requires
-    nodes-requires
-    predecessors-requires
     line-word-requires
     line-word-requires-2
-    slice-aggregate-show
-    show-requires
-    returns-3)
+    slice-aggregate-show-line
+    show-line-requires
+    returns-3
+    slice-aggregate-show-line-2
+    show-line-requires-2
+    returns-4)

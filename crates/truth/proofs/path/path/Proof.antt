@@ -8,6 +8,13 @@ use borrow.Author.Needs.{needs}
 use Rattle.truth.proofs.path.path.Statement.{statement}
 use Rattle.truth.proofs.path.path.Tie as tie
 
+-- the lists that were made have room for every pair
+long-nodes : (c : tie.After-make) → length (c .make .result .nodes) ≡ 2048
+long-nodes c = search needs
+
+long-states : (c : tie.After-make) → length (c .make .result .states) ≡ 2048
+long-states c = search needs
+
 least-requires : tie.Need-least-requires
 least-requires c κs = search needs
 
@@ -20,19 +27,27 @@ make-requires c κs = search needs
 length-of-requires : tie.Need-length-of-requires
 length-of-requires c κs = search needs
 
+write-nodes-requires : tie.Need-write-nodes-requires
+write-nodes-requires c κs =
+    let counted = c .before .before .before in
+    let made = counted .before in
+    let room = made .before .least2 in
+    let a = made .before .before .before .before .before .before .before .args in
+    let few = count-most (a .m .now) (a .r .now) (a .line) (a .node) (room .result) (made .make .result .nodes) (made .make .result .states) _ (made .make .result .answer) (made .make .ensures) (counted .length-of .ensures) in
+    let least = made .before .before .least .ensures in
+    let enough = room .ensures in
+    (omega (arith, few, least, enough), long-nodes made, omega (arith, few, least, enough))
+
 write-first-requires : tie.Need-write-first-requires
 write-first-requires c κs =
-    let a = c .before .before .before .before .before .before .before .before .before .before .before .args in
-    let made = c .before .before .before .before .make in
-    let few = count-most (a .m .now) (a .r .now) (a .line) (a .node) (c .before .before .before .before .before .least2 .result) (made .result .nodes) (made .result .states) (c .before .before .before .length-of .result) (made .result .answer) (made .ensures) (c .before .before .before .length-of .ensures) in
-    omega (arith, c .before .before .before .before .before .before .least .ensures, c .before .before .before .before .before .least2 .ensures)
-
-write-first-requires-2 : tie.Need-write-first-requires-2
-write-first-requires-2 c κs =
-    let a = c .before .before .before .before .before .before .before .before .before .before .before .before .before .before .before .args in
-    let made = c .before .before .before .before .before .before .before .before .make in
-    let few = count-most (a .m .now) (a .r .now) (a .line) (a .node) (c .before .before .before .before .before .before .before .before .before .least2 .result) (made .result .nodes) (made .result .states) (c .before .before .before .before .before .before .before .length-of .result) (made .result .answer) (made .ensures) (c .before .before .before .before .before .before .before .length-of .ensures) in
-    omega (arith, c .before .before .before .before .before .before .before .before .before .before .least .ensures, c .before .before .before .before .before .before .before .before .before .least2 .ensures)
+    let counted = c .before .before .before .before .before .before .before .before .before in
+    let made = counted .before in
+    let room = made .before .least2 in
+    let a = made .before .before .before .before .before .before .before .args in
+    let few = count-most (a .m .now) (a .r .now) (a .line) (a .node) (room .result) (made .make .result .nodes) (made .make .result .states) _ (made .make .result .answer) (made .make .ensures) (counted .length-of .ensures) in
+    let least = made .before .before .least .ensures in
+    let enough = room .ensures in
+    (omega (arith, few, least, enough), long-states made, omega (arith, few, least, enough))
 
 same-length : tie.Need-same-length
 same-length c = search needs
@@ -42,13 +57,16 @@ same-length-2 c = search needs
 
 returns : tie.Need-returns
 returns c =
-    let a = c .before .before .before .before .before .before .before .before .before .before .before .before .before .before .before .before .before .before .args in
-    let made = c .before .before .before .before .before .before .before .before .before .before .before .make in
-    let long-nodes : length (made .result .nodes) ≡ 2048 = search needs in
-    let long-states : length (made .result .states) ≡ 2048 = search needs in
-    answered (a .m .now) (a .r .now) (a .line) (a .node) (c .before .before .before .before .before .before .before .before .before .before .before .before .least2 .result) (made .result .nodes) (made .result .states) (a .nodes .now) (a .states .now) _ _
-    (omega (arith, c .before .before .before .before .before .before .before .before .before .before .before .before .before .least .ensures, c .before .before .before .before .before .before .before .before .before .before .before .before .least2 .ensures)) (omega arith) (omega arith) (c .before .before .before .before .before .before .before .before .before .before .length-of .result) (made .result .answer) (made .ensures) (c .before .before .before .before .before .before .before .before .before .before .length-of .ensures)
-    (c .before .before .before .before .before .before .write-first .ensures) (c .before .before .write-first2 .ensures)
+    let nodes-written = c .before .before .before .before .before .before .before .before in
+    let counted = nodes-written .before .before .before .before in
+    let made = counted .before in
+    let room = made .before .least2 in
+    let a = made .before .before .before .before .before .before .before .args in
+    let least = made .before .before .least .ensures in
+    let enough = room .ensures in
+    answered (a .m .now) (a .r .now) (a .line) (a .node) (room .result) (made .make .result .nodes) (made .make .result .states) (a .nodes .now) (a .states .now) _ _
+    (omega (arith, least, enough)) (omega (arith, long-nodes made)) (omega (arith, long-states made)) _ (made .make .result .answer) (made .make .ensures) (counted .length-of .ensures)
+    (nodes-written .write-nodes .ensures) (c .before .before .write-first .ensures)
 
 pub path-spec : {M : Type 1} → statement M
 path-spec =
@@ -58,8 +76,8 @@ path-spec =
     least-requires-2
     make-requires
     length-of-requires
+    write-nodes-requires
     write-first-requires
-    write-first-requires-2
     same-length
     same-length-2
     returns)

@@ -20,7 +20,7 @@ cast-walk c = search needs
 
 walk-requires : tie.Need-walk-requires
 walk-requires c κs =
-    let counted = c .before .before .before .before .before .before .before .before in
+    let counted = c .before .before .before .before .before in
     let start = counted .before .before .before .before .before .before in
     let a = start .args in
     walkable (a .m .now) (a .r .now) (a .next .now) (a .back .now) (a .rows .now) (a .j) (a .x) (start .pre .0) (a .exchanged) _ _ _ _ (counted .before .before .solve .ensures)
@@ -28,7 +28,7 @@ walk-requires c κs =
 
 chain-states-requires : tie.Need-chain-states-requires
 chain-states-requires c κs =
-    let counted = c .before .before .before .before .before .before .before .before .before .before in
+    let counted = c .before .before .before .before .before .before .before in
     let start = counted .before .before .before .before .before .before in
     let a = start .args in
     let few = states-few (a .m .now) (a .r .now) (a .next .now) (a .back .now) (a .rows .now) (a .j) (a .x) (start .pre .0) in
@@ -37,7 +37,7 @@ chain-states-requires c κs =
 
 named-requires : tie.Need-named-requires
 named-requires c κs =
-    let counted = c .before .before .before .before .before .before .before .before .before .before .before in
+    let counted = c .before .before .before .before .before .before .before .before in
     let start = counted .before .before .before .before .before .before in
     let a = start .args in
     let walk = c .before .before .walk in
@@ -47,7 +47,7 @@ named-requires c κs =
 
 returns : tie.Need-returns
 returns c =
-    let counted = c .before .before .before .before .before .before .before .before .before .before .before .before .before in
+    let counted = c .before .before .before .before .before .before .before .before .before .before in
     let start = counted .before .before .before .before .before .before in
     let a = start .args in
     let walk = c .before .before .before .before .walk in

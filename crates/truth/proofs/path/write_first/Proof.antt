@@ -11,10 +11,10 @@ use Rattle.truth.proofs.path.write_first.Statement.{statement}
 use Rattle.truth.proofs.path.write_first.Tie as tie
 
 abbrev Inv-loop : tie.InvT-loop
-Inv-loop list₀ count from i₀ list i = (i ≤ count) × (list ≡ take i from ++ drop i list₀)
+Inv-loop list₀ from count i₀ list i = (i ≤ count) × (list ≡ take i from ++ drop i list₀)
 
 abbrev μ-loop : tie.MeasureT-loop
-μ-loop list₀ count from i₀ list i = count - i
+μ-loop list₀ from count i₀ list i = count - i
 
 loop-holds : tie.Need-loop-holds Inv-loop μ-loop
 loop-holds c = (search needs, refl)
@@ -25,8 +25,8 @@ cast-list c = search needs
 mul-list : tie.Need-mul-list Inv-loop μ-loop
 mul-list c = search needs
 
-array-read-list : tie.Need-array-read-list Inv-loop μ-loop
-array-read-list c = search needs
+element-copy-out-list : tie.Need-element-copy-out-list Inv-loop μ-loop
+element-copy-out-list c = search needs
 
 cast-list-2 : tie.Need-cast-list-2 Inv-loop μ-loop
 cast-list-2 c = search needs
@@ -36,10 +36,9 @@ mul-list-2 c = search needs
 
 slice-write-list : tie.Need-slice-write-list Inv-loop μ-loop
 slice-write-list c =
-    let a = c .before .before .args in
-    let l = c .before .loop in
-    let size : length (a .t2) ≡ 2048 = search needs in
-    omega (arith, ap length (l .inv .1), written-length (a .t2) (a .list .now) (l .i) (omega arith) (omega arith))
+    let a = c .before .before .before .args in
+    let l = c .before .before .loop in
+    omega (arith, ap length (l .inv .1), written-length (a .from .now) (a .list .now) (l .i) (omega arith) (omega arith))
 
 add-i : tie.Need-add-i Inv-loop μ-loop
 add-i c = search needs
@@ -49,17 +48,15 @@ loop-less c = search needs
 
 loop-again : tie.Need-loop-again Inv-loop μ-loop
 loop-again c =
-    let a = c .before .before .args in
-    let l = c .before .loop in
-    let size : length (a .t2) ≡ 2048 = search needs in
-    (search needs, written-next (a .t2) (a .list .now) (l .list) (l .i) (omega arith) (omega arith) (l .inv .1))
+    let a = c .before .before .before .args in
+    let l = c .before .before .loop in
+    (search needs, written-next (a .from .now) (a .list .now) (l .list) (l .i) (omega arith) (omega arith) (l .inv .1))
 
 same-length : tie.Need-same-length Inv-loop μ-loop
 same-length c =
     let a = c .before .before .args in
     let l = c .before .loop in
-    let size : length (a .t2) ≡ 2048 = search needs in
-    ap length (l .inv .1) ∙ written-length (a .t2) (a .list .now) (l .i) (omega arith) (omega arith)
+    ap length (l .inv .1) ∙ written-length (a .from .now) (a .list .now) (l .i) (omega arith) (omega arith)
 
 returns : tie.Need-returns Inv-loop μ-loop
 returns c =
@@ -77,7 +74,7 @@ write-first-spec =
     loop-holds
     cast-list
     mul-list
-    array-read-list
+    element-copy-out-list
     cast-list-2
     mul-list-2
     slice-write-list

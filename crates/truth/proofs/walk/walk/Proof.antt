@@ -19,6 +19,9 @@ abbrev μ-loop : tie.MeasureT-loop
 room : (c : tie.Else1 Inv-loop μ-loop) → (c .before .before .loop .len < c .before .before .before .args .n * c .before .before .before .args .t) × (c .before .before .loop .len < 2048)
 room c = listing-room _ _ _ _ _ _ _ _ (c .before .before .before .pre) _ _ _ _ _ _ (c .before .before .loop .inv) _ _ (c .before .advance .ensures) (c .if1 .left)
 
+cast-nodes : tie.Need-cast-nodes Inv-loop μ-loop
+cast-nodes c = let r = start-range _ _ _ _ _ _ _ _ (c .pre) in omega arith
+
 array-write-nodes : tie.Need-array-write-nodes Inv-loop μ-loop
 array-write-nodes c = search needs
 
@@ -64,11 +67,11 @@ array-read-back c = let r = listing-range _ _ _ _ _ _ _ _ (c .before .before .pr
 returns : tie.Need-returns Inv-loop μ-loop
 returns c = listing-closed _ _ _ _ _ _ _ _ (c .before .before .before .pre) _ _ _ _ _ _ (c .before .before .loop .inv) _ _ (c .before .advance .ensures) (c .if1 .taken)
 
-cast-nodes : tie.Need-cast-nodes Inv-loop μ-loop
-cast-nodes c = let r = room c in omega arith
+cast-nodes-2 : tie.Need-cast-nodes-2 Inv-loop μ-loop
+cast-nodes-2 c = let r = listing-range _ _ _ _ _ _ _ _ (c .before .before .before .pre) _ _ _ _ _ _ (c .before .before .loop .inv) _ _ (c .before .advance .ensures) in omega arith
 
-mul-nodes : tie.Need-mul-nodes Inv-loop μ-loop
-mul-nodes c = let r = room c in omega arith
+cast-nodes-3 : tie.Need-cast-nodes-3 Inv-loop μ-loop
+cast-nodes-3 c = let r = room c in omega arith
 
 array-write-nodes-2 : tie.Need-array-write-nodes-2 Inv-loop μ-loop
 array-write-nodes-2 c = let r = room c in omega arith
@@ -103,6 +106,7 @@ walk-spec =
     (tie.spec
     Inv-loop
     μ-loop
+    cast-nodes
     array-write-nodes
     sub-places
     mul-places
@@ -117,8 +121,8 @@ walk-spec =
     mul-back
     array-read-back
     returns
-    cast-nodes
-    mul-nodes
+    cast-nodes-2
+    cast-nodes-3
     array-write-nodes-2
     cast-positions
     mul-positions
