@@ -1,4 +1,2 @@
--- What holds of exports.
-pub mod LabelNumbers
-pub mod PathNumbers
-pub mod CompareNumbers
+-- A law for the exports' proofs.
+pub mod Flags

@@ -4,7 +4,7 @@ ghost use Rattle.sheets.specs.Machine.{machineRefusal};
 ghost use Rattle.sheets.specs.Rules.{lent, ruleRefusal};
 ghost use Rattle.truth.specs.Answers.{LabelAnswer};
 ghost use Rattle.truth.specs.PathAnswers.{PathAnswer};
-ghost use Rattle.exports.specs.Numbers.{labelled, shown, compared};
+ghost use Rattle.exports.specs.Numbers.{Told, labelNumbers, pathNumbers, compareNumbers};
 ghost use Rattle.comparison.specs.Answers.{CompareAnswer};
 use comparison::compare;
 use comparison::compare::Answer;
@@ -51,7 +51,7 @@ pub extern "C" fn toqshenay_label(
     count: &mut u32,
     percent: &mut u32,
 ) -> u16
-    ensures { λ q. ⌜ LabelAnswer (now (m .entry)) (now (r .entry)) (now (rows .entry)) (now (rows .exit)) (labelled q (now (sheet .exit)) (now (kept .exit)) (now (count .exit)) (now (percent .exit))) ⌝ }
+    ensures { λ q. ⌜ Told (LabelAnswer (now (m .entry)) (now (r .entry)) (now (rows .entry)) (now (rows .exit))) labelNumbers (record { question = q; sheet = now (sheet .exit); kept = now (kept .exit); count = now (count .exit); percent = now (percent .exit) }) ⌝ }
 {
     let answer = labelling::label(m, r, rows);
     match answer {
@@ -90,7 +90,7 @@ pub extern "C" fn toqshenay_path(
     length: &mut u16,
     back: &mut u16,
 ) -> u16
-    ensures { λ q. ⌜ PathAnswer (now (m .entry)) (now (r .entry)) line node (now (nodes .entry)) (now (states .entry)) (now (nodes .exit)) (now (states .exit)) (shown q (now (sheet .exit)) (now (length .exit)) (now (back .exit))) ⌝ }
+    ensures { λ q. ⌜ Told (PathAnswer (now (m .entry)) (now (r .entry)) line node (now (nodes .entry)) (now (states .entry)) (now (nodes .exit)) (now (states .exit))) pathNumbers (record { question = q; sheet = now (sheet .exit); size = now (length .exit); back = now (back .exit) }) ⌝ }
 {
     let answer = path::path(m, r, line, node, nodes, states);
     match answer {
@@ -125,7 +125,7 @@ pub extern "C" fn toqshenay_compare(
     sheet: &mut u16,
     unequal: &mut u16,
 ) -> u16
-    ensures { λ q. ⌜ CompareAnswer (now (m1 .entry)) (now (m2 .entry)) (now (space .entry)) (now (space .exit)) (compared q (now (sheet .exit)) (now (unequal .exit))) ⌝ }
+    ensures { λ q. ⌜ Told (CompareAnswer (now (m1 .entry)) (now (m2 .entry)) (now (space .entry)) (now (space .exit))) compareNumbers (record { question = q; sheet = now (sheet .exit); unequal = now (unequal .exit) }) ⌝ }
 {
     let answer = compare::compare(m1, m2, space);
     match answer {

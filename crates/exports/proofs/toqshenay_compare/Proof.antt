@@ -1,5 +1,6 @@
 -- `toqshenay_compare` meets its contract: the numbers are those of the answer.
-use Rattle.exports.proofs.CompareNumbers.{refused-comparison, equal-number, unequal-number}
+use Rattle.exports.specs.Numbers.{compareNumbers}
+use mathlib.Core.Path.{ap, sym}
 use borrow.Author.Needs.{needs}
 use Rattle.exports.proofs.toqshenay_compare.Statement.{statement}
 use Rattle.exports.proofs.toqshenay_compare.Tie as tie
@@ -20,19 +21,34 @@ same-length : tie.Need-same-length
 same-length c = search needs
 
 returns : tie.Need-returns
-returns c = refused-comparison _ _ _ _ _ (c .before .before .before .before .before .compare .ensures) _ _ 0 (c .before .answer .given .1)
+unfolding compareNumbers
+returns c = record {
+  answer = _;
+  answered = c .before .before .before .before .before .compare .ensures;
+  told = sym (ap compareNumbers (c .before .answer .given .1));
+}
 
 same-length-2 : tie.Need-same-length-2
 same-length-2 c = search needs
 
 returns-2 : tie.Need-returns-2
-returns-2 c = equal-number _ _ _ _ _ (c .before .before .before .before .compare .ensures) 0 (c .enum-told .given .1)
+unfolding compareNumbers
+returns-2 c = record {
+  answer = _;
+  answered = c .before .before .before .before .compare .ensures;
+  told = sym (ap compareNumbers (c .enum-told .given .1));
+}
 
 same-length-3 : tie.Need-same-length-3
 same-length-3 c = search needs
 
 returns-3 : tie.Need-returns-3
-returns-3 c = unequal-number _ _ _ _ _ (c .before .before .before .before .compare .ensures) 0 (c .enum-told2 .given .1)
+unfolding compareNumbers
+returns-3 c = record {
+  answer = _;
+  answered = c .before .before .before .before .compare .ensures;
+  told = sym (ap compareNumbers (c .enum-told2 .given .1));
+}
 
 pub toqshenay-compare-spec : {M : Type 1} → statement M
 toqshenay-compare-spec =

@@ -1,5 +1,7 @@
 -- `toqshenay_label` meets its contract: the numbers are those of the answer.
-use Rattle.exports.proofs.LabelNumbers.{refused-number, done-number}
+use Rattle.exports.specs.Numbers.{labelNumbers}
+use Rattle.exports.proofs.Flags.{flag}
+use mathlib.Core.Path.{ap, sym}
 use borrow.Author.Needs.{needs}
 use Rattle.exports.proofs.toqshenay_label.Statement.{statement}
 use Rattle.exports.proofs.toqshenay_label.Tie as tie
@@ -20,13 +22,23 @@ same-length : tie.Need-same-length
 same-length c = search needs
 
 returns : tie.Need-returns
-returns c = refused-number _ _ _ _ _ (c .before .before .before .before .before .label .ensures) _ _ 0 0 0 (c .before .answer .given .1)
+unfolding labelNumbers
+returns c = record {
+  answer = _;
+  answered = c .before .before .before .before .before .label .ensures;
+  told = sym (ap labelNumbers (c .before .answer .given .1));
+}
 
 same-length-2 : tie.Need-same-length-2
 same-length-2 c = search needs
 
 returns-2 : tie.Need-returns-2
-returns-2 c = done-number _ _ _ _ _ (c .before .before .before .before .before .label .ensures) 0 _ _ _ (c .before .answer2 .given .1)
+unfolding labelNumbers
+returns-2 c = record {
+  answer = _;
+  answered = c .before .before .before .before .before .label .ensures;
+  told = rw (flag _) (sym (ap labelNumbers (c .before .answer2 .given .1)));
+}
 
 pub toqshenay-label-spec : {M : Type 1} → statement M
 toqshenay-label-spec =

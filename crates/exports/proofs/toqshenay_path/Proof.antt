@@ -1,5 +1,6 @@
 -- `toqshenay_path` meets its contract: the numbers are those of the answer.
-use Rattle.exports.proofs.PathNumbers.{refused-path, no-path, path-shown}
+use Rattle.exports.specs.Numbers.{pathNumbers}
+use mathlib.Core.Path.{ap, sym}
 use borrow.Author.Needs.{needs}
 use Rattle.exports.proofs.toqshenay_path.Statement.{statement}
 use Rattle.exports.proofs.toqshenay_path.Tie as tie
@@ -23,7 +24,12 @@ same-length-2 : tie.Need-same-length-2
 same-length-2 c = search needs
 
 returns : tie.Need-returns
-returns c = refused-path _ _ _ _ _ _ _ _ _ (c .before .before .before .before .before .before .before .path .ensures) _ _ 0 0 (c .before .answer .given .1)
+unfolding pathNumbers
+returns c = record {
+  answer = _;
+  answered = c .before .before .before .before .before .before .before .path .ensures;
+  told = sym (ap pathNumbers (c .before .answer .given .1));
+}
 
 same-length-3 : tie.Need-same-length-3
 same-length-3 c = search needs
@@ -32,7 +38,12 @@ same-length-4 : tie.Need-same-length-4
 same-length-4 c = search needs
 
 returns-2 : tie.Need-returns-2
-returns-2 c = no-path _ _ _ _ _ _ _ _ _ (c .before .before .before .before .before .before .path .ensures) 0 0 (c .enum-told .given .1)
+unfolding pathNumbers
+returns-2 c = record {
+  answer = _;
+  answered = c .before .before .before .before .before .before .path .ensures;
+  told = sym (ap pathNumbers (c .enum-told .given .1));
+}
 
 same-length-5 : tie.Need-same-length-5
 same-length-5 c = search needs
@@ -41,7 +52,12 @@ same-length-6 : tie.Need-same-length-6
 same-length-6 c = search needs
 
 returns-3 : tie.Need-returns-3
-returns-3 c = path-shown _ _ _ _ _ _ _ _ _ (c .before .before .before .before .before .before .before .path .ensures) 0 _ _ (c .before .answer2 .given .1)
+unfolding pathNumbers
+returns-3 c = record {
+  answer = _;
+  answered = c .before .before .before .before .before .before .before .path .ensures;
+  told = sym (ap pathNumbers (c .before .answer2 .given .1));
+}
 
 pub toqshenay-path-spec : {M : Type 1} → statement M
 toqshenay-path-spec =
