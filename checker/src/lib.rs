@@ -10,7 +10,8 @@
 //!   a judge of shown paths.
 //! - `compare`, `written`: comparison of two machines by the greatest fixpoint over pairs of nodes,
 //!   and a judge of written rules. `partition`: the same by partition refinement.
-//! - `program`: how the comparing program cuts its input, and the line it prints.
+//! - `program`: how the comparing program cuts its input, and the line it prints. `shown`: the text that
+//!   the labelling program prints, and a judge of what the path program prints.
 //! - `refusal`: a refusing question and the sheet it was asked of.
 //! - `components`: strong components of a directed graph.
 //! - `worked`: the document's worked sheets and marked cases.
@@ -32,6 +33,7 @@ pub mod program;
 pub mod refusal;
 pub mod rng;
 pub mod rules;
+pub mod shown;
 pub mod trial;
 pub mod truth;
 pub mod worked;

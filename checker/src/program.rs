@@ -9,7 +9,7 @@ pub const BYTES: usize = 20_000;
 
 /// The line that the program prints for its input, with its newline.
 pub fn expected_output(input: &[u8]) -> String {
-    let Some(words) = words(input) else {
+    let Some(words) = words(input, BYTES) else {
         return "refused 0 0\n".to_string();
     };
     let (first, second) = cut(&words);
@@ -20,9 +20,9 @@ pub fn expected_output(input: &[u8]) -> String {
     }
 }
 
-/// The words of an input, low byte first, unless it is odd or too long.
-fn words(input: &[u8]) -> Option<Vec<u16>> {
-    let whole = input.len().is_multiple_of(2) && input.len() <= BYTES;
+/// The words of an input, low byte first, unless it is odd or has more bytes than `most`.
+pub fn words(input: &[u8], most: usize) -> Option<Vec<u16>> {
+    let whole = input.len().is_multiple_of(2) && input.len() <= most;
     let pairs = input.chunks_exact(2);
     whole.then(|| {
         pairs
@@ -33,7 +33,7 @@ fn words(input: &[u8]) -> Option<Vec<u16>> {
 
 /// The first sheet ends where its header says, if question 1 says yes and the words reach that
 /// far; else it has all the words.
-fn cut(words: &[u16]) -> (&[u16], &[u16]) {
+pub fn cut(words: &[u16]) -> (&[u16], &[u16]) {
     match end_by_header(words) {
         Some(end) if end <= words.len() => words.split_at(end),
         _ => (words, &[]),
@@ -62,7 +62,8 @@ mod tests {
     #[test]
     fn the_low_byte_comes_first() {
         assert_eq!(bytes(&[0x0102, 3]), [2, 1, 3, 0]);
-        assert_eq!(words(&[2, 1, 3, 0]), Some(vec![0x0102, 3]));
+        assert_eq!(words(&[2, 1, 3, 0], 4), Some(vec![0x0102, 3]));
+        assert_eq!(words(&[2, 1, 3, 0], 3), None);
     }
 
     #[test]

@@ -14,6 +14,7 @@ use crate::path::{self, Asked, Pair};
 use crate::program::expected_output;
 use crate::refusal::Refusal;
 use crate::rng::Rng;
+use crate::shown;
 use crate::truth::Model;
 
 /// An implementation of labelling: machine words, rule words, the space for the rows.
@@ -160,6 +161,45 @@ pub fn program(seed: u64, cases: u64, mut run: impl FnMut(&[u8]) -> Vec<u8>) -> 
             input.len()
         );
         seen.note(expected.trim_end());
+    }
+    seen
+}
+
+/// The labelling program: what it prints for an input.
+pub fn labels(seed: u64, cases: u64, mut run: impl FnMut(&[u8]) -> String) -> Coverage {
+    let mut seen = Coverage::new();
+    for case in 0..cases {
+        let input = inputs::machine_and_rules(&mut Rng::for_case(seed, case), scale(case));
+        let printed = run(&input);
+        if let Err(said) = shown::judge_labels(&shown::model(&input), &printed) {
+            panic!("labels, seed {seed:#x}, case {case}: {said}");
+        }
+        seen.note(&match shown::refusal_in(&printed) {
+            Some(refusal) => refused("labelling", refusal),
+            None if printed.contains("not kept") => "not kept".to_string(),
+            None => "kept".to_string(),
+        });
+    }
+    seen
+}
+
+/// The path program: what it prints for an input, a line and a node.
+pub fn paths(seed: u64, cases: u64, mut run: impl FnMut(&[u8], Asked) -> String) -> Coverage {
+    let mut seen = Coverage::new();
+    for case in 0..cases {
+        let mut rng = Rng::for_case(seed, case);
+        let input = inputs::machine_and_rules(&mut rng, scale(case));
+        let model = shown::model(&input);
+        for _ in 0..3 {
+            let (asked, _) = pairs::path_question(&mut rng, &model);
+            let printed = run(&input, asked);
+            match shown::judge_path(&model, asked, &printed) {
+                Err(said) => panic!("paths, seed {seed:#x}, case {case}, {asked:?}: {said}"),
+                Ok(path::Answer::Refused(refusal)) => seen.note(&refused("path", refusal)),
+                Ok(path::Answer::NoPath) => seen.note("no path"),
+                Ok(path::Answer::Shown { .. }) => seen.note("a path"),
+            }
+        }
     }
     seen
 }
@@ -316,6 +356,34 @@ mod tests {
                 *lines = 1;
             }
             answer
+        });
+    }
+
+    fn refusal_text(Refusal { question, sheet }: Refusal) -> String {
+        match (question, sheet) {
+            (0, _) => "refused: odd\n".to_string(),
+            (_, 1) => format!("refused: question {question} of the first machine sheet: why\n"),
+            _ => format!("refused: question {question}: why\n"),
+        }
+    }
+
+    #[test]
+    #[should_panic(expected = "labels, seed")]
+    fn a_rule_called_kept_always_is_found() {
+        labels(SEED, 100, |input| match shown::model(input) {
+            Ok(model) => shown::labels(&model).replace("not kept", "kept"),
+            Err(refusal) => refusal_text(refusal),
+        });
+    }
+
+    #[test]
+    #[should_panic(expected = "paths, seed")]
+    fn a_text_without_a_path_always_is_found() {
+        paths(SEED, 100, |input, asked| {
+            match path::settled(&shown::model(input), asked, shown::PAIRS) {
+                Settled::Refused(refusal) => refusal_text(refusal),
+                _ => format!("no path: the line is false at node {}\n", asked.node),
+            }
         });
     }
 

@@ -1,18 +1,33 @@
-//! Inputs for the comparing program: the bytes of two sheets, valid or damaged, cut anywhere, odd,
-//! empty, and around the longest that it reads.
+//! Inputs for the programs: the bytes of two sheets, valid or damaged, cut anywhere, odd, empty, and
+//! around the longest that is read.
 
 use super::machine_pairs;
+use super::pairs::{self, Scale};
 use crate::program::{bytes, BYTES};
 use crate::rng::Rng;
+use crate::shown;
 
-/// An input of any kind.
+/// An input of any kind for the comparing program: two machines.
 pub fn any(rng: &mut Rng) -> Vec<u8> {
-    let mut input = two_sheets(rng);
+    let pair = machine_pairs::any(rng);
+    altered(rng, &pair.first, &pair.second, BYTES)
+}
+
+/// An input of any kind for the programs that label and show paths: a machine and a rule.
+pub fn machine_and_rules(rng: &mut Rng, scale: Scale) -> Vec<u8> {
+    let (machine, rules) = pairs::any(rng, scale);
+    altered(rng, &machine, &rules, shown::BYTES)
+}
+
+/// Two sheets, often as they are.
+fn altered(rng: &mut Rng, first: &[u16], second: &[u16], most: usize) -> Vec<u8> {
+    let mut input = bytes(first);
+    input.extend(bytes(second));
     match rng.below(16) {
         0..=8 => (),
         9 => input.truncate(rng.below(input.len() + 1)),
         10 => input.push(rng.word() as u8),
-        11 => input = long(rng, input),
+        11 => input = long(rng, input, most),
         12 => input.truncate(rng.below(12)),
         13 => change_byte(rng, &mut input),
         14 => input.extend([0, 0]),
@@ -21,16 +36,9 @@ pub fn any(rng: &mut Rng) -> Vec<u8> {
     input
 }
 
-fn two_sheets(rng: &mut Rng) -> Vec<u8> {
-    let pair = machine_pairs::any(rng);
-    let mut input = bytes(&pair.first);
-    input.extend(bytes(&pair.second));
-    input
-}
-
 /// Around the longest input: with the sheets at its head, and anything after them.
-fn long(rng: &mut Rng, mut input: Vec<u8>) -> Vec<u8> {
-    let length = *rng.pick(&[BYTES - 2, BYTES - 1, BYTES, BYTES + 1, BYTES + 2, 2 * BYTES]);
+fn long(rng: &mut Rng, mut input: Vec<u8>, most: usize) -> Vec<u8> {
+    let length = *rng.pick(&[most - 2, most - 1, most, most + 1, most + 2, 2 * most]);
     let fill = rng.word() as u8;
     input.resize(length, fill);
     input

@@ -7,7 +7,7 @@
 //! - `limits`: the systematic part: every word of small sheets at every limit, header grids, cuts.
 //! - `pairs`: a machine and a rule, and the spaces that labelling and path write to.
 //! - `machine_pairs`: two machines to compare, and the space for the rule.
-//! - `inputs`: bytes for the comparing program.
+//! - `inputs`: bytes for the programs.
 
 pub mod chains;
 pub mod damage;

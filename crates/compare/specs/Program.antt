@@ -27,6 +27,7 @@ pub record Compared (M₁ M₂ : List ℕ) (said : Said) : Type 0 where
   pub compared : CompareAnswer M₁ M₂ before after answer
   pub told : said ≡ saidOf answer
 
+-- "at most 20,000 bytes", and "`refused 0 0` for an odd byte count or more than 20,000 bytes"
 pub record Answered (bytes : List ℕ) (said : Said) : Type 0 where
-  pub refused : readable (length bytes) ≡ false → said ≡ Said.Refused 0 0
-  pub compared : readable (length bytes) ≡ true → Compared (firstSheet (wordsOf bytes)) (secondSheet (wordsOf bytes)) said
+  pub refused : readable 20000 (length bytes) ≡ false → said ≡ Said.Refused 0 0
+  pub compared : readable 20000 (length bytes) ≡ true → Compared (firstSheet (wordsOf bytes)) (secondSheet (wordsOf bytes)) said

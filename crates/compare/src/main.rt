@@ -37,7 +37,7 @@ fn compare_words(words: &[u16]) -> Said
 fn answer(input: &[u8]) -> Said
     ensures { λ r. ⌜ Answered (now (input .entry)) r ⌝ }
 {
-    if !bytes::readable(input.len()) {
+    if !bytes::readable(input.len(), 20000) {
         return Said::Refused {
             question: 0,
             sheet: 0,

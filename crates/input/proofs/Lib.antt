@@ -2,4 +2,5 @@
 pub mod WordLists
 pub mod Cuts
 pub mod HeldLines
+pub mod ArgumentTexts
 pub mod WorkedInput

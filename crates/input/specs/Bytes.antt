@@ -1,13 +1,13 @@
 -- The bytes of standard input. Document 01: "The comparing program reads two machine sheets from standard input, low byte first,
--- at most 20,000 bytes".
+-- at most 20,000 bytes". Each program says its own number.
 use Prim.Native.Nat.{ℕ, _+_, _*_, _%_}
 use mathlib.Core.List.{List, [], _∷_}
 use mathlib.Core.Bool.{Bool, _&&_}
 use lib.Dec.{leb, eqb}
 
--- a number of bytes that is taken: "`refused 0 0` for an odd byte count or more than 20,000 bytes"
-unfoldable pub readable : ℕ → Bool
-readable count = leb count 20000 && eqb (count % 2) 0
+-- a number of bytes that is taken, of which there are so many at most: "`refused 0 0` for an odd byte count or more than 20,000 bytes"
+unfoldable pub readable : ℕ → ℕ → Bool
+readable most count = leb count most && eqb (count % 2) 0
 
 -- "low byte first"
 unfoldable pub wordOf : ℕ → ℕ → ℕ

@@ -1,4 +1,5 @@
--- The definitions of the comparing program's input and output.
+-- The definitions of what programs read and print.
 pub mod Bytes
 pub mod Cut
 pub mod Lines
+pub mod Arguments

@@ -6,11 +6,11 @@ ghost use lib.ListN.{length, take, drop};
 ghost use Rattle.input.specs.Bytes.{wordOf, wordsOf};
 ghost use Rattle.input.specs.Bytes as Bytes;
 
-// An even number of at most 20,000 bytes is taken; any other is answered by `refused 0 0`.
-pub fn readable(count: usize) -> bool
-    ensures { λ r. ⌜ r ≡ Bytes.readable count ⌝ }
+// An even number of at most `most` bytes is taken; any other is answered by the refusal 0 0.
+pub fn readable(count: usize, most: usize) -> bool
+    ensures { λ r. ⌜ r ≡ Bytes.readable most count ⌝ }
 {
-    count <= 20000 && count % 2 == 0
+    count <= most && count % 2 == 0
 }
 
 // The word of two bytes.

@@ -1,6 +1,7 @@
 -- `answer` meets its contract: the words that it lends are all the words of the bytes.
 use mathlib.Core.Path.{_≡_, refl, sym, _∙_}
 use Prim.Native.Nat.{_≤_}
+use native.Mathlib.Omega.{arith}
 use mathlib.Core.Bool.{true, false, true≢false}
 use lib.Seq.{length-take-le}
 use lib.ListN.{length, take}
@@ -41,8 +42,8 @@ returns-2 : tie.Need-returns-2
 returns-2 c =
     let bytes = c .before .before .before .before .before .before .before .before .args .input .now in
     let got = c .before .before .before .words-of in
-    let ok : readable (length bytes) ≡ true = sym (c .before .before .before .before .before .before .readable .ensures) ∙ not-false _ (c .before .before .before .before .before .if1 .left) in
-    let whole : take (got .result) (got .last .1 .0) ≡ wordsOf bytes = words-whole bytes _ (got .last .1 .0) (got .result) ok refl (got .ensures .0) (got .ensures .1) in
+    let ok : readable 20000 (length bytes) ≡ true = sym (c .before .before .before .before .before .before .readable .ensures) ∙ not-false _ (c .before .before .before .before .before .if1 .left) in
+    let whole : take (got .result) (got .last .1 .0) ≡ wordsOf bytes = words-whole 20000 bytes _ (got .last .1 .0) (got .result) ok (omega arith) (got .ensures .0) (got .ensures .1) in
     record { refused = λ e. absurd (true≢false (sym ok ∙ e)); compared = λ e. rw (← whole) (c .compare-words .ensures) }
 
 pub answer-spec : {M : Type 1} → statement M

@@ -6,11 +6,11 @@ use Rattle.input.proofs.bytes.readable.Tie as tie
 
 returns : tie.Need-returns
 unfolding readable
-returns c = simp (le-leb _ 20000 (c .if1 .taken))
+returns c = simp (le-leb _ _ (c .if1 .taken))
 
 returns-2 : tie.Need-returns-2
 unfolding readable
-returns-2 c = simp (lt-leb _ 20000 (c .if1 .left))
+returns-2 c = simp (lt-leb _ _ (c .if1 .left))
 
 pub readable-spec : {M : Type 1} → statement M
 readable-spec = tie.close (tie.spec returns returns-2)

@@ -1,0 +1,2 @@
+-- The laws of the labelling program.
+pub mod LabelledRooms

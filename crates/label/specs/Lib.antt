@@ -1,0 +1,2 @@
+-- The definitions of the labelling program.
+pub mod Program

@@ -1,0 +1,28 @@
+// The labelling program: a machine sheet and a rule sheet from standard input; the truth of every line at every node, and whether the
+// rule is kept, to standard output.
+mod answer; // answer.rt: what is answered to the input
+mod print; // print.rt: what is printed
+
+use answer::Answer;
+use libc::STDIN_FILENO;
+
+// Reads one byte more than is taken, so that a longer input is noticed. The rows have space for 1,024 lines.
+fn main() {
+    let mut input = [0u8; 29007];
+    let n = io::read_full(STDIN_FILENO, &mut input);
+    let mut rows = [0u64; 2048];
+    let answer = answer::answer_to(&input[..n], &mut rows);
+    match answer {
+        Answer::Refused { question, sheet } => say::refusal(question, sheet),
+        Answer::Done {
+            nodes,
+            lines,
+            kept,
+            count,
+            percent,
+        } => {
+            print::rows(&rows, nodes, lines);
+            print::verdict(nodes, kept, count, percent);
+        }
+    }
+}

@@ -1,0 +1,2 @@
+-- The laws of the path program.
+pub mod ShownRooms

@@ -1,0 +1,2 @@
+-- The definitions of the path program.
+pub mod Program
