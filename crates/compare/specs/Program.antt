@@ -28,6 +28,7 @@ pub record Compared (M₁ M₂ : List ℕ) (said : Said) : Type 0 where
   pub told : said ≡ saidOf answer
 
 -- "at most 20,000 bytes", and "`refused 0 0` for an odd byte count or more than 20,000 bytes"
+-- what is said of the bytes of standard input: "`refused 0 0` for an odd byte count or more than 20,000 bytes", else of the two sheets
 pub record Answered (bytes : List ℕ) (said : Said) : Type 0 where
   pub refused : readable 20000 (length bytes) ≡ false → said ≡ Said.Refused 0 0
   pub compared : readable 20000 (length bytes) ≡ true → Compared (firstSheet (wordsOf bytes)) (secondSheet (wordsOf bytes)) said

@@ -35,6 +35,8 @@ nextWords =
     0 ∷ 1 ∷ 2 ∷ 0 ∷ 2 ∷ 3 ∷ 1 ∷ 4 ∷ 4 ∷ 0 ∷ 5 ∷ 0
     ∷ 2 ∷ 3 ∷ 0 ∷ 3 ∷ 2 ∷ 3 ∷ 4 ∷ 1 ∷ 0 ∷ 3 ∷ 3 ∷ 0 ∷ 4 ∷ 3 ∷ 0 ∷ []
 
+-- questions 20 to 22, of a space of so many words: "Are both a equal?", "Do the nodes sum to at most 128?", "Has the rule space at least
+-- 33 + 6 × (a + 7N) words?"
 unfoldable pub compareQuestions : List ℕ → List ℕ → ℕ → List Question
 unfolding signals nodes
 compareQuestions M₁ M₂ space =

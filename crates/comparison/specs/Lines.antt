@@ -12,6 +12,7 @@ pub data Entry : Type 0 where
   alt : ℕ → ℕ → Entry
   next : ℕ → Entry
 
+-- the six words of a line record
 unfoldable pub words : Entry → List ℕ
 words (sig i) = 0 ∷ i ∷ 0 ∷ 0 ∷ 0 ∷ 0 ∷ []
 words (neg j) = 1 ∷ j ∷ 0 ∷ 0 ∷ 0 ∷ 0 ∷ []
@@ -28,6 +29,7 @@ unfoldable pub head : ℕ → List ℕ
 unfolding nextWords
 head l = 1 ∷ 4 ∷ 5 ∷ l ∷ 1 ∷ 1 ∷ nextWords
 
+-- the rule sheet of a list of lines
 unfoldable pub sheet : List Entry → List ℕ
 unfolding head lineWords
 sheet ls = head (length ls) ++ lineWords ls

@@ -8,14 +8,6 @@ use Rattle.sheets.specs.declared.lines.Line.the-variants.{Signal, Negati
 use Rattle.sheets.specs.declared.lines.Decoded.{Decoded}
 use Rattle.sheets.specs.declared.lines.Decoded.the-variants.{Formed, Malformed}
 
--- document 01's operation for each case of a decoded line
-abbrev pub operationOf : Line → ℕ
-operationOf (Signal i) = 0
-operationOf (Negation i) = 1
-operationOf (Either i k) = 2
-operationOf (SomePath x) = 3
-operationOf (SomePathNot x) = 4
-
 -- line j by its operation, where question 15 says yes to it; the lines of an automaton's variables are words 2 to 1 + v of the record
 unfoldable pub decodedBy : List ℕ → ℕ → ℕ → Bool → Decoded
 unfolding lineWord lent

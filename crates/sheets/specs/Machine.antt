@@ -36,10 +36,12 @@ unfoldable pub signalAt : List ℕ → ℕ → ℕ → Bool
 unfolding nodeWord bit
 signalAt M i s = bit (nodeWord M s 0) (i - 1)
 
+-- the start flag of node s: 1 at a start node
 unfoldable pub startFlag : List ℕ → ℕ → ℕ
 unfolding nodeWord
 startFlag M s = nodeWord M s 1
 
+-- the node that edge record x leads to
 unfoldable pub target : List ℕ → ℕ → ℕ
 unfolding edgeWord
 target M x = edgeWord M x 0
@@ -59,27 +61,34 @@ kripke M = record {
   start = λ s. within 1 (nodes M) s && eqb (startFlag M s) 1;
 }
 
--- the questions
+-- ---- the questions
+
+-- "Are there at least 3 words, and are n, a, e in range?"
 unfoldable pub q1 : List ℕ → Bool
 unfolding within nodes signals edges
 q1 M = leb 3 (length M) && within 1 128 (nodes M) && within 1 16 (signals M) && within 1 2048 (edges M)
 
+-- "Is the length exactly 3 + 3n + 2e?"
 unfoldable pub q2 : List ℕ → Bool
 unfolding nodes edges
 q2 M = eqb (length M) (3 + 3 * nodes M + 2 * edges M)
 
+-- "Are the signal bits from bit a up zero, and is each flag 0 or 1?"
 unfoldable pub q3 : List ℕ → Bool
 unfolding each nodes nodeWord signals startFlag
 q3 M = each (nodes M) (λ s. ltb (nodeWord M s 0) (2 ^ signals M) && leb (startFlag M s) 1)
 
+-- "Is each first edge in 1 to e?"
 unfoldable pub q4 : List ℕ → Bool
 unfolding each nodes within edges nodeWord
 q4 M = each (nodes M) (λ s. within 1 (edges M) (nodeWord M s 2))
 
+-- "Is each edge's target in 1 to n, and its next zero, or above its own number and at most e?"
 unfoldable pub q5 : List ℕ → Bool
 unfolding each edges within nodes target link edgeWord
 q5 M = each (edges M) (λ x. within 1 (nodes M) (target M x) && link (edges M) x (edgeWord M x 1))
 
+-- "Is there a start node?"
 unfoldable pub q6 : List ℕ → Bool
 unfolding each nodes startFlag
 q6 M = not (each (nodes M) (λ s. eqb (startFlag M s) 0))

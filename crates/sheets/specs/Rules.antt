@@ -10,14 +10,17 @@ use Rattle.sheets.specs.Structures.{Automaton, Line, signal, negation, e
 use Rattle.sheets.specs.Words.{word, bit, within, each, allOf, anyOf, member, howMany, chain, link}
 use Rattle.sheets.specs.Questions.{Question, ask, firstNo}
 
+-- an upper limit of document 01, or none where it is lifted
 pub data Limit : Type 0 where
   unlimited : Limit
   most : ℕ → Limit
 
+-- a number is within a limit
 unfoldable pub fits : Limit → ℕ → Bool
 fits unlimited x = true
 fits (most n) x = leb x n
 
+-- the upper limits on k, m, e, l, v and the states of one automaton, and the words of a line record
 pub record Form : Type 0 where
   pub automata : Limit
   pub states : Limit
@@ -82,6 +85,7 @@ unfoldable pub statesOf : List ℕ → ℕ → List ℕ
 unfolding chain states stateWord initial
 statesOf R x = chain (states R) (λ q. stateWord R q 2) (initial R x)
 
+-- the accepting word of state q is 1
 unfoldable pub accepting : List ℕ → ℕ → Bool
 unfolding stateWord
 accepting R q = eqb (stateWord R q 0) 1
@@ -158,30 +162,36 @@ unmixed R all = allOf all (λ p. allOf all (λ q. not (accepting R p && not (acc
 
 -- ---- the questions
 
+-- no element is there twice
 unfoldable pub distinct : List ℕ → Bool
 unfolding member
 distinct [] = true
 distinct (x ∷ xs) = not (member x xs) && distinct xs
 
+-- "Are there at least 4 words, and are k, m, e, l in range?"
 unfoldable pub q7 : Form → List ℕ → Bool
 unfolding fits automata states transitions lines
 q7 F R =
     leb 4 (length R) && fits (F .automata) (automata R) && fits (F .states) (states R) && fits (F .transitions) (transitions R)
     && leb 1 (lines R) && fits (F .lines) (lines R)
 
+-- "Is the length exactly 4 + 2k + 3m + 3e + 6l?"
 unfoldable pub q8 : Form → List ℕ → Bool
 unfolding automata states transitions lines
 q8 F R = eqb (length R) (4 + 2 * automata R + 3 * states R + 3 * transitions R + F .lineWords * lines R)
 
+-- "Are v and the first state (1 to m) in range?"
 unfoldable pub q9 : Form → List ℕ → Bool
 unfolding each automata fits variables within states initial
 q9 F R = each (automata R) (λ x. fits (F .variables) (variables R x) && within 1 (states R) (initial R x))
 
+-- "Is each accepting word 0 or 1, first edge in 1 to e, next state zero, or above its own number and at most m?"
 unfoldable pub q10 : Form → List ℕ → Bool
 unfolding each states stateWord within transitions link
 q10 F R =
     each (states R) (λ q. leb (stateWord R q 0) 1 && within 1 (transitions R) (stateWord R q 1) && link (states R) q (stateWord R q 2))
 
+-- "The same for edges: target in 1 to m, next zero or above and at most e?"
 unfoldable pub q11 : Form → List ℕ → Bool
 unfolding each transitions within states transitionTarget link transitionWord
 q11 F R = each (transitions R) (λ y. within 1 (states R) (transitionTarget R y) && link (transitions R) y (transitionWord R y 2))
@@ -197,6 +207,7 @@ unfolding fits statesOf allOf transitionsFit variables transitionsOf
 automatonFits F R x =
     fits (F .chained) (length (statesOf R x)) && allOf (statesOf R x) (λ q. transitionsFit R (variables R x) (statesOf R x) (transitionsOf R q))
 
+-- "Has each automaton at most 16 states, its masks below 2^(2^v), and out of each of its states only targets on its own chain, none twice?"
 unfoldable pub q12 : Form → List ℕ → Bool
 unfolding each automata automatonFits
 q12 F R = each (automata R) (automatonFits F R)
@@ -210,10 +221,12 @@ unfoldable pub automatonTotal : List ℕ → ℕ → Bool
 unfolding allOf statesOf total variables transitionsOf
 automatonTotal R x = allOf (statesOf R x) (λ q. total R (variables R x) (transitionsOf R q))
 
+-- "Do the masks out of each of its states exclude each other and together hold every valuation?"
 unfoldable pub q13 : Form → List ℕ → Bool
 unfolding each automata automatonTotal
 q13 F R = each (automata R) (automatonTotal R)
 
+-- "Does condition 1 hold?"
 unfoldable pub q14 : Form → List ℕ → Bool
 unfolding each automata unmixed statesOf
 q14 F R = each (automata R) (λ x. unmixed R (statesOf R x))
@@ -234,6 +247,7 @@ unfolding within lineWord unused refersAbove automata variables
 pathFits F R j =
     within 1 (automata R) (lineWord F R j 1) && refersAbove F R j 1 (variables R (lineWord F R j 1)) && unused F R j (2 + variables R (lineWord F R j 1))
 
+-- line j, by its operation: a signal number in 1 to 16, or references to lines above it; unused words are zero
 unfoldable pub lineFits : Form → List ℕ → ℕ → ℕ → Bool
 unfolding within lineWord unused refersAbove pathFits
 lineFits F R j zero = within 1 16 (lineWord F R j 1) && unused F R j 2
@@ -243,6 +257,8 @@ lineFits F R j (suc (suc (suc zero))) = pathFits F R j
 lineFits F R j (suc (suc (suc (suc zero)))) = pathFits F R j
 lineFits F R j (suc (suc (suc (suc (suc n))))) = false
 
+-- "Is each operation 0 to 4, each unused word zero, each signal number in 1 to 16, automaton in 1 to k, and line referred to from 1 to
+-- one below its own?"
 unfoldable pub q15 : Form → List ℕ → Bool
 unfolding each lines lineFits lineWord
 q15 F R = each (lines R) (λ j. lineFits F R j (lineWord F R j 0))

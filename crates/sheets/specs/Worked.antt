@@ -6,6 +6,7 @@ use mathlib.Core.List.{List, [], _∷_}
 abbrev pub M1 : List ℕ
 M1 = 1 ∷ 1 ∷ 1 ∷ 1 ∷ 1 ∷ 1 ∷ 1 ∷ 0 ∷ []
 
+-- M2: two nodes with signal 1, each leading to the other
 abbrev pub M2 : List ℕ
 M2 = 2 ∷ 1 ∷ 2 ∷ 1 ∷ 1 ∷ 1 ∷ 1 ∷ 0 ∷ 2 ∷ 2 ∷ 0 ∷ 1 ∷ 0 ∷ []
 
