@@ -12,6 +12,7 @@
 //!   and a judge of written rules. `partition`: the same by partition refinement.
 //! - `program`: how the comparing program cuts its input, and the line it prints. `shown`: the text that
 //!   the labelling program prints, and a judge of what the path program prints.
+//! - `explanation`: a judge of what the explaining program prints.
 //! - `refusal`: a refusing question and the sheet it was asked of.
 //! - `components`: strong components of a directed graph.
 //! - `worked`: the document's worked sheets and marked cases.
@@ -24,6 +25,7 @@
 pub mod compare;
 pub mod components;
 pub mod coverage;
+pub mod explanation;
 pub mod generate;
 pub mod labelling;
 pub mod machine;

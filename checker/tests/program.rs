@@ -1,52 +1,19 @@
 //! The comparing program, run on whole inputs and on inputs that arrive in small pieces.
 
+mod programs;
+
 use checker::generate::inputs;
 use checker::program::expected_output;
 use checker::rng::Rng;
 use checker::trial;
-use std::io::{Read, Write};
-use std::path::PathBuf;
-use std::process::{Child, Command, Stdio};
+use std::io::Write;
 
 const SEED: u64 = 0x7072_6f67_7261_6d01;
 const CASES: u64 = 3_000;
 const SLOW_CASES: u64 = 40;
 
-fn program() -> PathBuf {
-    PathBuf::from(env!("CARGO_MANIFEST_DIR")).join("../target/bin/compare")
-}
-
-fn start() -> Child {
-    Command::new(program())
-        .stdin(Stdio::piped())
-        .stdout(Stdio::piped())
-        .spawn()
-        .expect("target/bin/compare is there once `rt check` has run")
-}
-
-fn finish(mut child: Child) -> Vec<u8> {
-    drop(child.stdin.take());
-    let mut printed = Vec::new();
-    child
-        .stdout
-        .take()
-        .expect("the output is a pipe")
-        .read_to_end(&mut printed)
-        .expect("the output can be read");
-    child.wait().expect("the program ends");
-    printed
-}
-
-/// Hands the input over in pieces of a size. The program stops reading past 20,001 bytes, so that a later write may find the pipe closed.
 fn run_in_pieces(input: &[u8], size: usize) -> Vec<u8> {
-    let mut child = start();
-    let pipe = child.stdin.as_mut().expect("the input is a pipe");
-    for piece in input.chunks(size) {
-        if pipe.write_all(piece).and_then(|()| pipe.flush()).is_err() {
-            break;
-        }
-    }
-    finish(child)
+    programs::run_in_pieces("compare", input, size)
 }
 
 #[test]

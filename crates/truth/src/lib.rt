@@ -7,6 +7,7 @@ pub mod trimming; // trimming.rt: the largest set of pairs each of which has a s
 pub mod growth; // growth.rt: the pairs from which steps lead into a set
 pub mod lines; // lines.rt: the row of one line
 pub mod labelling; // labelling.rt: the rows of a rule sheet, and the answer
+pub mod breaks; // breaks.rt: the start node where a machine breaks a rule
 pub mod walk; // walk.rt: a walk through the pairs that shows a path
 pub mod header; // header.rt: what the crate above asks of a machine sheet
 pub mod path; // path.rt: the path call

@@ -1,0 +1,78 @@
+//! The explaining program, run on inputs of every kind: the rule that it prints is read back and judged by the checker's own truth on
+//! both machines, and so are the machine that it names and the start node.
+
+mod programs;
+
+use checker::coverage::Coverage;
+use checker::explanation::judge;
+use checker::generate::inputs;
+use checker::program::bytes;
+use checker::rng::Rng;
+use checker::worked;
+use std::collections::BTreeMap;
+use std::io::Write;
+
+const SEED: u64 = 0x6578_706c_6169_6e01;
+const CASES: u64 = 3_000;
+
+fn explain(input: &[u8]) -> String {
+    let printed = programs::run_in_pieces("explain", input, 65_536);
+    String::from_utf8(printed).expect("the text is in ASCII")
+}
+
+#[test]
+fn whole_inputs() {
+    let mut seen = Coverage::new();
+    let mut reasons = BTreeMap::new();
+    for case in 0..CASES {
+        let input = inputs::any(&mut Rng::for_case(SEED, case));
+        let printed = explain(&input);
+        let (line, reason) = judge(&input, &printed)
+            .unwrap_or_else(|wrong| panic!("seed {SEED:#x}, case {case}: {wrong}\n{printed}"));
+        for keeper in ["first", "second"] {
+            if printed.contains(&format!("The {keeper} machine keeps")) {
+                seen.note(&format!("kept by the {keeper}"));
+            }
+        }
+        if let Some(question) = line.strip_prefix("refused ") {
+            let question = question.split(' ').next().map(str::to_string);
+            let told = reasons.entry(question).or_insert_with(|| reason.clone());
+            assert_eq!(*told, reason, "one reason for each question");
+        }
+        seen.note(&line);
+    }
+    writeln!(std::io::stderr(), "seed {SEED:#x}, {CASES} inputs\n{seen}")
+        .expect("standard error can be written");
+    for line in ["equal", "refused 0 0", "refused 1 1", "refused 1 2"] {
+        seen.require(line, 8);
+    }
+    for keeper in ["kept by the first", "kept by the second"] {
+        seen.require(keeper, 100);
+    }
+    let mut told: Vec<&String> = reasons.values().collect();
+    told.sort();
+    told.dedup();
+    assert_eq!(
+        told.len(),
+        reasons.len(),
+        "another reason for each question"
+    );
+}
+
+#[test]
+fn worked_machines() {
+    for (first, second) in [
+        (worked::m1(), worked::m2()),
+        (worked::m1(), worked::m3()),
+        (worked::m3(), worked::m1()),
+        (worked::m5(), worked::m6()),
+        (worked::m6(), worked::m5()),
+        (worked::m1(), worked::m5()),
+    ] {
+        let input = bytes(&[first, second].concat());
+        let printed = explain(&input);
+        if let Err(wrong) = judge(&input, &printed) {
+            panic!("{wrong}\n{printed}");
+        }
+    }
+}

@@ -1,0 +1,77 @@
+-- A rule that comparison wrote at the head of the space: where it ends, and that labelling accepts it with both machines.
+use mathlib.Core.Path.{_≡_, refl, sym, ap, _∙_}
+use Prim.Native.Nat.{ℕ, _+_, _*_, _≤_}
+use native.Mathlib.Omega.{arith}
+use mathlib.Core.List.{List, _∷_}
+use lib.ListN.{length, getD, take, drop, length-append, List·getD-append}
+use lib.Seq.{take-at, getD-take}
+use lib.Dec.{T, eqb→eq}
+use borrow.Author.Tests.{le-leb}
+use Rattle.sheets.specs.Words.{word}
+use Rattle.sheets.specs.Questions.{Refusal, none as noRefusal, firstNo}
+use Rattle.sheets.specs.Machine.{signals, machineRefusal}
+use Rattle.sheets.specs.Rules.{lent, automata, states, transitions, lines, ruleRefusal, overSignals, q8}
+use Rattle.sheets.proofs.Tests.{passed}
+use Rattle.sheets.proofs.Questions.{rule-answers, yes, none}
+use Rattle.sheets.proofs.AcceptedMachine.{signals-sized}
+use Rattle.truth.specs.Labelling.{labelQuestions}
+use Rattle.truth.proofs.LabelTable.{spaceQuestion, by-last}
+use Rattle.comparison.specs.Comparison.{Written, nextWords}
+use Rattle.comparison.specs.Answers.{comparisonQuestions}
+use Rattle.comparison.proofs.CompareTable.{Compared, compared}
+use Rattle.explain.specs.Verdicts.{Labelable, Telling}
+
+-- of an accepted rule with few enough lines
+labels : (M R : List ℕ) → machineRefusal M ≡ 0 → ruleRefusal lent R ≡ 0 → T (overSignals lent (signals M) R) → lines R ≤ 1024
+    → Labelable M R
+unfolding Labelable labelQuestions
+labels M R m r over most =
+    let all = passed (overSignals lent (signals M) R) over in
+    sym (by-last M R (spaceQuestion R 2048) 0 (sym m) refl 0 (sym r) refl all 0 (yes (le-leb (2 * lines R) 2048 (omega arith)) none))
+
+module _ (M₁ M₂ R before after : List ℕ) (w : Written M₁ M₂ R before after) where
+  -- ---- where it ends
+
+  head-word : (i : ℕ) → i + 1 ≤ 33 → word R i ≡ getD (1 ∷ 4 ∷ 5 ∷ lines R ∷ 1 ∷ 1 ∷ nextWords) i 0
+  unfolding word
+  head-word i h = sym (getD-take 33 R i 0 (omega arith)) ∙ ap (λ (l : List ℕ). getD l i 0) (w .head)
+
+  rule-length : length R ≡ 33 + 6 * lines R
+  unfolding q8 lent automata states transitions
+  rule-length =
+      let e = eqb→eq (length R) _ (rule-answers lent R (w .accepted) .eight) in
+      omega (arith, e, head-word 0 (omega arith), head-word 1 (omega arith), head-word 2 (omega arith))
+
+  lines-after : lines after ≡ lines R
+  unfolding lines word
+  lines-after =
+      ap (λ (l : List ℕ). getD l 3 0) (w .stands) ∙ List·getD-append R (drop (length R) before) 0 3 (omega (arith, rule-length))
+
+  module _ (end : ℕ) (e : end ≡ 33 + 6 * lines after) where
+    ends : length R ≡ end
+    ends = rule-length ∙ sym (e ∙ ap (λ (l : ℕ). 33 + 6 * l) lines-after)
+
+    pub rule-within : end ≤ length after
+    rule-within = omega (arith, ends, ap length (w .stands), length-append R (drop (length R) before))
+
+    pub rule-whole : take end after ≡ R
+    rule-whole = ap (take end) (w .stands) ∙ take-at R (drop (length R) before) end ends
+
+  -- ---- labelling accepts it
+
+  module _ (asked : noRefusal ≡ firstNo (comparisonQuestions M₁ M₂ (length before))) where
+    known : Compared M₁ M₂ (length before)
+    unfolding noRefusal
+    known = compared M₁ M₂ (length before) (ap (λ (r : Refusal). r .number) asked)
+
+    few-lines : lines R ≤ 1024
+    few-lines =
+        let k = known in
+        omega (arith, w .short, k .few, signals-sized M₁ (k .first) .1)
+
+    pub telling : Telling M₁ M₂ R
+    telling = record {
+      first = labels M₁ R (known .first) (w .accepted) (w .over) few-lines;
+      second = labels M₂ R (known .second) (w .accepted) (rw (← known .same) (w .over)) few-lines;
+      apart = w .apart;
+    }

@@ -1,0 +1,110 @@
+// The answer in words, on standard output. What a descriptor carries cannot be said in a contract; each function is proved safe and ends.
+use crate::answer::Said;
+use crate::verdict::Verdict;
+use say::number;
+use say::text;
+use sheets::lines;
+use sheets::lines::Decoded;
+use sheets::lines::Line;
+use sheets::rules;
+
+// Prints what is said of the input; the rule stands at the head of the space.
+pub fn print(said: Said, rule: &[u16]) {
+    match said {
+        Said::Refused { question, sheet } => say::refusal(question, sheet),
+        Said::Equal => text(
+            b"The two machines are equal: every rule is kept by both or by neither. A replacement needs no rehearsal call.\n",
+        ),
+        Said::Unequal { verdict } => {
+            text(
+                b"The two machines are unequal. One of them keeps this rule and the other does not:\n",
+            );
+            print_rule(rule);
+            print_verdict(verdict, rules::lines(rule));
+        }
+    }
+}
+
+// One numbered line for each line of the sheet.
+fn print_rule(rule: &[u16]) {
+    let l = rules::lines(rule);
+    let mut j: u16 = 0;
+    while j < l {
+        j += 1;
+        print_line(rule, j);
+    }
+}
+
+// Line j with its number.
+fn print_line(rule: &[u16], j: u16) {
+    number(j);
+    text(b": ");
+    print_meaning(rule, j);
+    text(b"\n");
+}
+
+// What line j says. The one automaton of a written rule is Next, so that a path line speaks of the next nodes; the line of its one
+// variable is word 2 of the record.
+fn print_meaning(rule: &[u16], j: u16) {
+    let decoded = lines::decode(rule, j);
+    let Decoded::Formed(line) = decoded else {
+        text(b"malformed");
+        return;
+    };
+    match line {
+        Line::Signal(i) => print_signal(i),
+        Line::Negation(k) => print_negation(k),
+        Line::Either(i, k) => print_either(i, k),
+        Line::SomePath(_) => print_next(b"some next node has line ", rules::line_word(rule, j, 2)),
+        Line::SomePathNot(_) => print_next(
+            b"some next node does not have line ",
+            rules::line_word(rule, j, 2),
+        ),
+    }
+}
+
+fn print_signal(i: u16) {
+    text(b"signal ");
+    number(i);
+    text(b" is on");
+}
+
+fn print_negation(k: u16) {
+    text(b"line ");
+    number(k);
+    text(b" does not hold");
+}
+
+fn print_either(i: u16, k: u16) {
+    text(b"line ");
+    number(i);
+    text(b" or line ");
+    number(k);
+    text(b" holds");
+}
+
+fn print_next(words: &[u8], k: u16) {
+    text(words);
+    number(k);
+}
+
+// Which machine keeps the rule, its last line, and where the other breaks it.
+fn print_verdict(verdict: Verdict, last: u16) {
+    if verdict.first {
+        print_sides(b"first", b"second", last, verdict.node);
+    } else {
+        print_sides(b"second", b"first", last, verdict.node);
+    }
+}
+
+fn print_sides(keeper: &[u8], breaker: &[u8], last: u16, node: u16) {
+    text(b"The ");
+    text(keeper);
+    text(b" machine keeps the rule, line ");
+    number(last);
+    text(b". The ");
+    text(breaker);
+    text(b" breaks it at its start node ");
+    number(node);
+    text(b".\n");
+}
