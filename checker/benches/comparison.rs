@@ -3,11 +3,12 @@
 
 #[path = "../tests/exports/mod.rs"]
 mod exports;
+mod shared;
 
 use checker::compare::Answer;
 use checker::machine::Machine;
 use checker::rng::Rng;
-use std::time::{Duration, Instant};
+use shared::best;
 
 const ROUNDS: usize = 50;
 
@@ -105,24 +106,9 @@ fn split(blocks: &mut Vec<u128>, set: u128, mut told: impl FnMut(usize, usize)) 
     }
 }
 
-/// A sheet from targets, signals and starts.
+/// A sheet with two signals.
 fn sheet(targets: &[Vec<usize>], signals: &[u16], start: usize) -> Vec<u16> {
-    let edges: usize = targets.iter().map(Vec::len).sum();
-    let mut words = vec![targets.len() as u16, 2, edges as u16];
-    let mut first = 1;
-    for (node, out) in targets.iter().enumerate() {
-        words.extend([signals[node], u16::from(node == start), first as u16]);
-        first += out.len();
-    }
-    let mut number = 0;
-    for out in targets {
-        for (place, target) in out.iter().enumerate() {
-            number += 1;
-            let next = if place + 1 < out.len() { number + 1 } else { 0 };
-            words.extend([*target as u16 + 1, next as u16]);
-        }
-    }
-    words
+    shared::sheet(2, targets, signals, start)
 }
 
 /// A ring of nodes with one signal at its last node: nodes differ only many steps down.
@@ -150,17 +136,6 @@ fn shuffled(rng: &mut Rng, targets: &[Vec<usize>], signals: &[u16]) -> Vec<u16> 
         new_signals[places[node]] = signals[node];
     }
     sheet(&new_targets, &new_signals, places[0])
-}
-
-fn best(mut run: impl FnMut()) -> Duration {
-    (0..ROUNDS)
-        .map(|_| {
-            let start = Instant::now();
-            run();
-            start.elapsed()
-        })
-        .min()
-        .expect("there is a round")
 }
 
 fn main() {
@@ -193,10 +168,10 @@ fn main() {
         let mut space = vec![0xffffu16; 33 + 6 * (16 + 7 * 128)];
         let proved = exports::compare(first, second, &mut space) == Answer::Equal;
         assert_eq!(proved, Both::read(first, second).equal(), "{name}");
-        let proved = best(|| {
+        let proved = best(ROUNDS, || {
             exports::compare(first, second, &mut space);
         });
-        let own = best(|| {
+        let own = best(ROUNDS, || {
             std::hint::black_box(Both::read(first, second).equal());
         });
         println!("{name:>30}: proved {proved:>10.2?}   refinement {own:>10.2?}");

@@ -3,11 +3,12 @@
 
 #[path = "../tests/exports/mod.rs"]
 mod exports;
+mod shared;
 
 use checker::labelling;
 use checker::rng::Rng;
 use checker::truth::Model;
-use std::time::{Duration, Instant};
+use shared::{best, sheet};
 
 const NODES: usize = 128;
 const STATES: usize = 16;
@@ -15,29 +16,16 @@ const LINES: usize = 1_024;
 const AUTOMATA: usize = 16;
 const ROUNDS: usize = 5;
 
-/// A machine sheet from the targets of each node, with one signal at random nodes.
+/// A machine sheet from the targets of each node, with four signals at random nodes.
 fn machine(rng: &mut Rng, targets: &[Vec<usize>]) -> Vec<u16> {
-    let edges: usize = targets.iter().map(Vec::len).sum();
-    let mut words = vec![NODES as u16, 4, edges as u16];
-    let mut first = 1;
-    for (node, out) in targets.iter().enumerate() {
-        words.extend([rng.below(16) as u16, u16::from(node == 0), first as u16]);
-        first += out.len();
-    }
-    let mut number = 0;
-    for out in targets {
-        for (place, target) in out.iter().enumerate() {
-            number += 1;
-            let next = if place + 1 < out.len() { number + 1 } else { 0 };
-            words.extend([*target as u16 + 1, next as u16]);
-        }
-    }
-    words
+    let signals: Vec<u16> = targets.iter().map(|_| rng.below(16) as u16).collect();
+    sheet(4, targets, &signals, 0)
 }
 
-fn random_machine(rng: &mut Rng) -> Vec<u16> {
+/// So many edges out of every node: 16 make 2,048, as many as a sheet can have.
+fn random_machine(rng: &mut Rng, edges: usize) -> Vec<u16> {
     let targets: Vec<Vec<usize>> = (0..NODES)
-        .map(|_| (0..3).map(|_| rng.below(NODES)).collect())
+        .map(|_| (0..edges).map(|_| rng.below(NODES)).collect())
         .collect();
     machine(rng, &targets)
 }
@@ -52,14 +40,6 @@ fn long_chain(rng: &mut Rng) -> Vec<u16> {
                 vec![node, 0]
             }
         })
-        .collect();
-    machine(rng, &targets)
-}
-
-/// 16 edges out of every node: 2,048, as many as a sheet can have.
-fn dense(rng: &mut Rng) -> Vec<u16> {
-    let targets: Vec<Vec<usize>> = (0..NODES)
-        .map(|_| (0..16).map(|_| rng.below(NODES)).collect())
         .collect();
     machine(rng, &targets)
 }
@@ -106,24 +86,13 @@ fn rules(rng: &mut Rng) -> Vec<u16> {
     words
 }
 
-fn best(mut run: impl FnMut()) -> Duration {
-    (0..ROUNDS)
-        .map(|_| {
-            let start = Instant::now();
-            run();
-            start.elapsed()
-        })
-        .min()
-        .expect("there is a round")
-}
-
 fn main() {
     let mut rng = Rng::for_case(0x6c61_6265_6c6c_6501, 0);
     let rules = rules(&mut rng);
     let machines = [
-        ("random", random_machine(&mut rng)),
+        ("random", random_machine(&mut rng, 3)),
         ("long chain", long_chain(&mut rng)),
-        ("dense", dense(&mut rng)),
+        ("dense", random_machine(&mut rng, 16)),
     ];
     println!("{LINES} lines, {STATES} states, {NODES} nodes; best of {ROUNDS}");
     for (name, machine) in &machines {
@@ -137,10 +106,10 @@ fn main() {
         );
         assert_eq!(proved, own, "{name}");
         assert_eq!(proved_rows, own_rows, "{name}");
-        let proved = best(|| {
+        let proved = best(ROUNDS, || {
             exports::label(machine, &rules, &mut proved_rows);
         });
-        let own = best(|| {
+        let own = best(ROUNDS, || {
             labelling::label(&Model::read(machine, &rules), &mut own_rows);
         });
         println!("{name:>10}: proved {proved:>10.2?}   checker {own:>10.2?}");

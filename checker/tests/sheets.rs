@@ -8,9 +8,11 @@ use checker::generate::damage::{any_word, MACHINE_FAULTS, RULE_FAULTS};
 use checker::generate::limits::{self, Lent};
 use checker::generate::machines::machine_sheet;
 use checker::generate::rules::rule_sheet;
+use checker::generate::{MachineSheet, RuleSheet};
 use checker::rng::Rng;
 use checker::{machine, rules};
 use std::io::Write;
+use std::ops::RangeInclusive;
 
 const MACHINE_SEED: u64 = 0x6d61_6368_696e_6501;
 const RULE_SEED: u64 = 0x7275_6c65_7368_7401;
@@ -20,6 +22,15 @@ const RANDOM_RULES: u64 = 120_000;
 /// Past the test harness, which would swallow it: the seeds belong into every log.
 fn log(text: &str) {
     writeln!(std::io::stderr(), "{text}").expect("standard error can be written");
+}
+
+/// What a sheet check is compared on: a grid of headers, small sheets with each word at each limit and cut everywhere, random sheets.
+struct Sheets {
+    seed: u64,
+    headers: Vec<Vec<u16>>,
+    small: fn(&mut Rng, usize) -> Vec<Vec<u16>>,
+    random: fn(u64) -> Lent,
+    cases: u64,
 }
 
 /// One of the two sheet checks, as the checker and as the proved code decide it.
@@ -74,8 +85,28 @@ impl Check {
         }
     }
 
+    /// Compares on all the sheets, and requires that enough of each question were among them.
+    fn run(mut self, sheets: Sheets, questions: RangeInclusive<u16>) {
+        log(&format!("{}s: seed {:#x}", self.name, sheets.seed));
+        self.compare_all(sheets.headers, "header grid");
+        let small = (sheets.small)(&mut Rng::new(sheets.seed), 30);
+        for (base, words) in small.iter().enumerate() {
+            let origin = format!("small sheet {base}");
+            self.compare_all(limits::each_word_at_each_limit(words), &origin);
+            for lent in limits::cuts(words) {
+                self.compare(lent.sheet(), &origin);
+            }
+        }
+        for case in 0..sheets.cases {
+            let lent = (sheets.random)(case);
+            self.compare(lent.sheet(), &format!("random case {case}"));
+        }
+        assert!(self.sheets >= 100_000, "only {} sheets", self.sheets);
+        self.require(questions);
+    }
+
     /// Fails unless every question was the refusing one often, and acceptance very often.
-    fn require(&self, questions: std::ops::RangeInclusive<u16>) {
+    fn require(&self, questions: RangeInclusive<u16>) {
         log(&format!(
             "{}s: {} compared\n{}",
             self.name, self.sheets, self.seen
@@ -118,66 +149,64 @@ fn lend(rng: &mut Rng, mut words: Vec<u16>, faulty: bool) -> Lent {
     }
 }
 
-fn random_machine(case: u64) -> Lent {
-    let mut rng = Rng::for_case(MACHINE_SEED, case);
-    let mut sheet = machine_sheet(&mut rng);
-    let faults = fault_count(&mut rng);
-    for _ in 0..faults {
-        rng.pick(&MACHINE_FAULTS).1(&mut rng, &mut sheet);
+/// A question, and what makes a sheet fail it.
+type Fault<S> = (u16, fn(&mut Rng, &mut S));
+
+/// A random sheet with its faults, as it is lent.
+fn random<S>(
+    seed: u64,
+    case: u64,
+    make: fn(&mut Rng) -> S,
+    faults: &[Fault<S>],
+    words: fn(&S) -> Vec<u16>,
+) -> Lent {
+    let mut rng = Rng::for_case(seed, case);
+    let mut sheet = make(&mut rng);
+    let count = fault_count(&mut rng);
+    for _ in 0..count {
+        rng.pick(faults).1(&mut rng, &mut sheet);
     }
-    lend(&mut rng, sheet.words(), faults == 1)
+    lend(&mut rng, words(&sheet), count == 1)
+}
+
+fn random_machine(case: u64) -> Lent {
+    random(
+        MACHINE_SEED,
+        case,
+        machine_sheet,
+        &MACHINE_FAULTS,
+        MachineSheet::words,
+    )
 }
 
 fn random_rules(case: u64) -> Lent {
-    let mut rng = Rng::for_case(RULE_SEED, case);
-    let mut sheet = rule_sheet(&mut rng);
-    let faults = fault_count(&mut rng);
-    for _ in 0..faults {
-        rng.pick(&RULE_FAULTS).1(&mut rng, &mut sheet);
-    }
-    lend(&mut rng, sheet.words(), faults == 1)
+    random(RULE_SEED, case, rule_sheet, &RULE_FAULTS, RuleSheet::words)
 }
 
 #[test]
 fn machine_sheets() {
-    log(&format!("machine sheets: seed {MACHINE_SEED:#x}"));
-    let mut check = Check::machines();
-    check.compare_all(limits::machine_headers(), "header grid");
-    for (base, words) in limits::small_machines(&mut Rng::new(MACHINE_SEED), 30)
-        .iter()
-        .enumerate()
-    {
-        let origin = format!("small sheet {base}");
-        check.compare_all(limits::each_word_at_each_limit(words), &origin);
-        for lent in limits::cuts(words) {
-            check.compare(lent.sheet(), &origin);
-        }
-    }
-    for case in 0..RANDOM_MACHINES {
-        check.compare(random_machine(case).sheet(), &format!("random case {case}"));
-    }
-    assert!(check.sheets >= 100_000, "only {} sheets", check.sheets);
-    check.require(1..=6);
+    Check::machines().run(
+        Sheets {
+            seed: MACHINE_SEED,
+            headers: limits::machine_headers(),
+            small: limits::small_machines,
+            random: random_machine,
+            cases: RANDOM_MACHINES,
+        },
+        1..=6,
+    );
 }
 
 #[test]
 fn rule_sheets() {
-    log(&format!("rule sheets: seed {RULE_SEED:#x}"));
-    let mut check = Check::rules();
-    check.compare_all(limits::rule_headers(), "header grid");
-    for (base, words) in limits::small_rules(&mut Rng::new(RULE_SEED), 30)
-        .iter()
-        .enumerate()
-    {
-        let origin = format!("small sheet {base}");
-        check.compare_all(limits::each_word_at_each_limit(words), &origin);
-        for lent in limits::cuts(words) {
-            check.compare(lent.sheet(), &origin);
-        }
-    }
-    for case in 0..RANDOM_RULES {
-        check.compare(random_rules(case).sheet(), &format!("random case {case}"));
-    }
-    assert!(check.sheets >= 100_000, "only {} sheets", check.sheets);
-    check.require(7..=15);
+    Check::rules().run(
+        Sheets {
+            seed: RULE_SEED,
+            headers: limits::rule_headers(),
+            small: limits::small_rules,
+            random: random_rules,
+            cases: RANDOM_RULES,
+        },
+        7..=15,
+    );
 }

@@ -7,10 +7,10 @@ use mathlib.Core.List.{List, _++_}
 use borrow.Author.Tests.{le-leb, lt-leb, eq-eqb, ne-eqb}
 use lib.Dec.{leb→le, eqb→eq}
 use Rattle.truth.specs.Passed.{Refusal, none as noRefusal, Question, firstNo, nodes, signals, machineQuestions, machineRefusal}
-use Rattle.truth.proofs.Passed.{all-yes, found, none, yes, no}
+use Rattle.truth.proofs.Passed.{all-yes, found, none, yes, no, none-found}
 use Rattle.comparison.specs.Comparison.{compareQuestions}
 use Rattle.comparison.specs.Answers.{comparisonQuestions}
-use Rattle.comparison.proofs.QuestionTables.{none-found, PutTo, no-sheet, refused-by, asked-on, accepted-by}
+use Rattle.comparison.proofs.QuestionTables.{PutTo, no-sheet, refused-by, asked-on, accepted-by}
 
 module _ (M₁ M₂ : List ℕ) (space : ℕ) where
   abbrev lastQuestions : List Question

@@ -1,11 +1,11 @@
 -- Lines that are true at exactly the nodes of a set: each kind of line, and the two parts of a split; and that they stay so
 -- when lines are added.
-use mathlib.Core.Path.{_≡_, refl, subst, _∙_}
+use mathlib.Core.Path.{_≡_, refl, subst, ap, _∙_}
 use mathlib.Core.Logic.{_↔_, Iff·trans, Iff·symm, Iff·not}
 use Prim.Native.Nat.{ℕ, zero, suc, _+_, _≤_}
 use native.Mathlib.Omega.{arith}
 use mathlib.Core.List.{List, [], _∷_, _++_}
-use mathlib.Core.Bool.{Bool, true, false, not, _&&_, _||_}
+use mathlib.Core.Bool.{Bool, true, false, not, _&&_, _||_, Bool·not-not}
 use lib.ListN.{length, length-append}
 use lib.Dec.{T}
 use Rattle.truth.specs.Passed.{kripke, nodes, machineRefusal}
@@ -65,15 +65,12 @@ module _ (a : ℕ) (ls : List Entry) (down : Downward a ls) (i : ℕ) (l : 1 ≤
       (entry-one ls (next i)) (exact-kept M ok a ls (next i ∷ []) down next-down i l h p e)
 
 -- ---- a split
-both-true : (x y : Bool) → not (not x || not y) ≡ (x && y)
-both-true true true = refl
-both-true true false = refl
-both-true false y = refl
-
 first-only : (x y : Bool) → not (not x || y) ≡ (x && not y)
-first-only true true = refl
-first-only true false = refl
+first-only true y = refl
 first-only false y = refl
+
+both-true : (x y : Bool) → not (not x || not y) ≡ (x && y)
+both-true x y = first-only x (not y) ∙ ap (λ (b : Bool). x && b) (Bool·not-not y)
 
 module _ (a : ℕ) (ls : List Entry) (down : Downward a ls) (b p : ℕ) (lb : 1 ≤ b) (hb : b ≤ length ls) (lp : 1 ≤ p) (hp : p ≤ length ls) where
   split-refers : (k : ℕ) → 1 ≤ k → k ≤ 6 → Refers a (length ls + k) (entry (split (length ls) b p) k)

@@ -1,6 +1,6 @@
 -- Finer blocks: the parts of a split, one refinement after another, and that what does not split a block does not split its parts.
 use mathlib.Core.Path.{_≡_, subst, _∙_}
-use mathlib.Core.Logic.{_≢_, _⊎_, inl, inr, ⊎-map}
+use mathlib.Core.Logic.{_≢_, inl, inr, ⊎-map}
 use Prim.Native.Nat.{ℕ, _≤_, _<_}
 use native.Mathlib.Omega.{arith}
 use mathlib.Core.List.{List}
@@ -71,7 +71,7 @@ unsplit-finer M₁ M₂ st st′ x₁ x₂ f u d h =
 
 module _ (st st′ : State) (c p : ℕ) (x₁ x₂ : ℕ → Bool) (h : c < st .count) (b : SplitBlock st st′ c p x₁ x₂) where
   -- a fact of the blocks afterwards: of the added one, of c, and of the others
-  pub each-after : (P : ℕ → Type 0) → P (st .count) → P c → ((d : ℕ) → d < st .count → d ≢ c → P d) → (d : ℕ) → d < st′ .count → P d
+  each-after : (P : ℕ → Type 0) → P (st .count) → P c → ((d : ℕ) → d < st .count → d ≢ c → P d) → (d : ℕ) → d < st′ .count → P d
   each-after P added here others d l = each-block (st .count) c P added here others d (omega (arith, b .count))
 
   pub kept-others : (d : ℕ) → d < st .count → d ≢ c → Kept st st′ d

@@ -1,5 +1,5 @@
 -- Lines in a space of words: a line's six words are stored below the others, and lists of lines are written one after the other.
-use mathlib.Core.Path.{_≡_, refl, sym, ap, _∙_}
+use mathlib.Core.Path.{_≡_, refl, ap, _∙_}
 use Prim.Native.Nat.{ℕ, _+_, _*_, _≤_, _<_}
 use native.Mathlib.Numerals.{add-one}
 use native.Mathlib.Omega.{arith}
@@ -7,6 +7,7 @@ use mathlib.Core.List.{List, [], _∷_, _++_, append-assoc}
 use lib.ListN.{length, set, take, length-append, length-set}
 use lib.Seq.{take-suc-set}
 use Rattle.comparison.specs.Lines.{Entry, sig, neg, alt, words, lineWords, signalLines, everywhere, firstLines, split, Holds, Adds}
+use Rattle.comparison.proofs.Lines.{words-below}
 use Rattle.comparison.proofs.FirstLines.{signal-length}
 
 -- ---- six stores
@@ -38,18 +39,6 @@ six-stored l k u v w x y z h =
 
 -- ---- lines
 
-line-words-added : (ls more : List Entry) → lineWords (ls ++ more) ≡ lineWords ls ++ lineWords more
-unfolding lineWords
-line-words-added [] more = refl
-line-words-added (l ∷ ls) more = ap (λ (r : List ℕ). words l ++ r) (line-words-added ls more) ∙ sym (append-assoc (words l) (lineWords ls) (lineWords more))
-
-one-line : (l : Entry) → lineWords (l ∷ []) ≡ words l
-unfolding lineWords words
-one-line (Entry.sig i) = refl
-one-line (Entry.neg i) = refl
-one-line (Entry.alt i j) = refl
-one-line (Entry.next i) = refl
-
 -- the words of a line were stored below n lines
 pub adds-line : (before after : List ℕ) (n : ℕ) (l : Entry) → length after ≡ 5632 → take (6 * n + 6) after ≡ take (6 * n) before ++ words l → Adds before after n (l ∷ [])
 adds-line before after n l size e = record { size = size; adds = λ ls len h. record { size = size; stands = stands ls len (h .stands) } }
@@ -58,7 +47,7 @@ adds-line before after n l size e = record { size = size; adds = λ ls len h. re
     stands ls len h =
         let m : 6 * length (ls ++ l ∷ []) ≡ 6 * n + 6 = omega (arith, length-append ls (l ∷ [])) in
         let k : 6 * length ls ≡ 6 * n = omega arith in
-        ap (λ (i : ℕ). take i after) m ∙ e ∙ rw (← k, h, line-words-added, one-line)
+        ap (λ (i : ℕ). take i after) m ∙ e ∙ rw (← k, h, words-below)
 
 pub holds-none : (space : List ℕ) → length space ≡ 5632 → Holds space []
 unfolding lineWords

@@ -5,7 +5,7 @@ pub mod NextStep
 pub mod TrueLines
 pub mod AddedLines
 pub mod ExactLines
-pub mod DecidedBlocks
+pub mod CountedBlocks
 pub mod Invariance
 pub mod Partition
 pub mod Refinement

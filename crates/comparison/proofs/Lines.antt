@@ -2,11 +2,21 @@
 use mathlib.Core.Path.{_≡_, refl, sym, ap, ap₂, _∙_}
 use Prim.Native.Nat.{ℕ, zero, suc, _+_, _-_, _*_, _≤_, _<_}
 use native.Mathlib.Omega.{arith}
-use mathlib.Core.List.{List, [], _∷_, _++_}
+use mathlib.Core.List.{List, [], _∷_, _++_, append-assoc, append-nil}
 use lib.ListN.{length, getD, replicate, length-append, List·getD-append}
 use lib.Seq.{getD-append-add}
 use Rattle.truth.specs.Passed.{Line, signal, negation, either, somePath, lifted, lines, lineWord, line, lineOf}
 use Rattle.comparison.specs.Lines.{Entry, sig, neg, alt, next, words, lineWords, head, sheet, entry}
+
+-- the words of one line below others
+line-words-added : (ls more : List Entry) → lineWords (ls ++ more) ≡ lineWords ls ++ lineWords more
+unfolding lineWords
+line-words-added [] more = refl
+line-words-added (l ∷ ls) more = ap (λ (r : List ℕ). words l ++ r) (line-words-added ls more) ∙ sym (append-assoc (words l) (lineWords ls) (lineWords more))
+
+pub words-below : (ls : List Entry) (l : Entry) → lineWords (ls ++ l ∷ []) ≡ lineWords ls ++ words l
+unfolding lineWords
+words-below ls l = line-words-added ls (l ∷ []) ∙ ap (λ (r : List ℕ). lineWords ls ++ r) (append-nil (words l))
 
 -- line j of a sheet, taken apart; `arg` are the argument words of a path line
 unfoldable pub decoded : (ℕ → ℕ) → Entry → Line

@@ -29,34 +29,23 @@ only a q = (λ t. ⊎-elim (λ u. sym (eqb→eq a q u)) absurd (or-cases (eqb a 
 
 -- automaton 1 of a sheet that comparison writes is Next
 module _ (ls : List Entry) where
-  from-1 : (w q : ℕ) → w < 2 → T (automaton (sheet ls) 1 .goes 1 w q) ↔ (q ≡ 2)
-  unfolding automaton sheet
-  from-1 zero q h = only 2 q
-  from-1 (suc zero) q h = only 2 q
-  from-1 (suc (suc w)) q h = absurd (omega arith)
-
-  from-3 : (w q : ℕ) → w < 2 → T (automaton (sheet ls) 1 .goes 3 w q) ↔ (q ≡ 3)
-  unfolding automaton sheet
-  from-3 zero q h = only 3 q
-  from-3 (suc zero) q h = only 3 q
-  from-3 (suc (suc w)) q h = absurd (omega arith)
-
-  from-4 : (w q : ℕ) → w < 2 → T (automaton (sheet ls) 1 .goes 4 w q) ↔ (q ≡ 4)
-  unfolding automaton sheet
-  from-4 zero q h = only 4 q
-  from-4 (suc zero) q h = only 4 q
-  from-4 (suc (suc w)) q h = absurd (omega arith)
+  -- state p goes to r under both valuations
+  always : (p r : ℕ) → ((q : ℕ) → T (automaton (sheet ls) 1 .goes p 0 q) ↔ (q ≡ r)) → ((q : ℕ) → T (automaton (sheet ls) 1 .goes p 1 q) ↔ (q ≡ r))
+      → (w q : ℕ) → w < 2 → T (automaton (sheet ls) 1 .goes p w q) ↔ (q ≡ r)
+  always p r a b zero q h = a q
+  always p r a b (suc zero) q h = b q
+  always p r a b (suc (suc w)) q h = absurd (omega arith)
 
   pub is-next : IsNext (automaton (sheet ls) 1)
   unfolding automaton sheet
   is-next = record {
     one = refl;
     begin = refl;
-    from-1 = from-1;
+    from-1 = always 1 2 (only 2) (only 2);
     from-2-true = only 3;
     from-2-false = only 4;
-    from-3 = from-3;
-    from-4 = from-4;
+    from-3 = always 3 3 (only 3) (only 3);
+    from-4 = always 4 4 (only 4) (only 4);
     accepts = tt;
     rejects = λ x. x;
   }

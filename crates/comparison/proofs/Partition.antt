@@ -48,6 +48,17 @@ swap-block : (count : ℕ) (M₁ M₂ : List ℕ) (m₁ m₂ : Members) (s t : �
 unfolding SameBlock
 swap-block count M₁ M₂ m₁ m₂ s t b = (b .0, b .1, b .3, b .2)
 
+-- and a start node
+starts-follow : (count : ℕ) (M₁ M₂ : List ℕ) (m₁ m₂ : Members) → Covers M₁ m₁ count → ((c : ℕ) → c < count → HasStart M₁ m₁ c → HasStart M₂ m₂ c)
+    → (s : ℕ) → T (kripke M₁ .start s) → (t : ℕ) × T (kripke M₂ .start t) × SameBlock count M₁ M₂ m₁ m₂ s t
+unfolding HasStart SameBlock Covers In
+starts-follow count M₁ M₂ m₁ m₂ covers starts s x =
+    let r = start-node M₁ s x in
+    let c = covers s (r .0) (r .1) in
+    let t = starts (c .0) (c .1) (s, x, c .2) in
+    let r′ = start-node M₂ (t .0) (t .1) in
+    (t .0, t .1, (c .0, c .1, (r .0, r .1, c .2), (r′ .0, r′ .1, t .2)))
+
 module _ (a count : ℕ) (M₁ M₂ : List ℕ) (m₁ m₂ : Members) (ok₁ : machineRefusal M₁ ≡ 0) (ok₂ : machineRefusal M₂ ≡ 0)
     (st : Stable a count M₁ M₂ m₁ m₂) where
   pub bisimulation : Bisimulation a (kripke M₁) (kripke M₂) (SameBlock count M₁ M₂ m₁ m₂)
@@ -65,18 +76,9 @@ module _ (a count : ℕ) (M₁ M₂ : List ℕ) (m₁ m₂ : Members) (ok₁ : m
 
   pub keeps-same : ((c : ℕ) → c < count → HasStart M₁ m₁ c ↔ HasStart M₂ m₂ c) → (L : ℕ) (R : List ℕ) → Rule a L R
       → Keeps (lifted L) M₁ R ↔ Keeps (lifted L) M₂ R
-  unfolding HasStart SameBlock Covers In
   keeps-same starts L R rule =
       keeps-agree a M₁ M₂ (SameBlock count M₁ M₂ m₁ m₂) bisimulation L R rule
-      (λ s x.
-      let r = start-node M₁ s x in
-      let c = st .covers₁ s (r .0) (r .1) in
-      let t = starts (c .0) (c .1) .0 (s, x, c .2) in
-      let r′ = start-node M₂ (t .0) (t .1) in
-      (t .0, t .1, (c .0, c .1, (r .0, r .1, c .2), (r′ .0, r′ .1, t .2))))
+      (starts-follow count M₁ M₂ m₁ m₂ (st .covers₁) (λ c h. starts c h .0))
       (λ t x.
-      let r = start-node M₂ t x in
-      let c = st .covers₂ t (r .0) (r .1) in
-      let s = starts (c .0) (c .1) .1 (t, x, c .2) in
-      let r′ = start-node M₁ (s .0) (s .1) in
-      (s .0, s .1, (c .0, c .1, (r′ .0, r′ .1, s .2), (r .0, r .1, c .2))))
+      let f = starts-follow count M₂ M₁ m₂ m₁ (st .covers₂) (λ c h. starts c h .1) t x in
+      (f .0, f .1, swap-block count M₂ M₁ m₂ m₁ t (f .0) (f .2)))

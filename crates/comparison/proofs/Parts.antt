@@ -1,11 +1,11 @@
 -- The members and the lines of the blocks after a split.
-use mathlib.Core.Path.{_≡_, ap, ap₂}
+use mathlib.Core.Path.{_≡_, refl, ap, ap₂}
 use mathlib.Core.Logic.{_≢_}
 use Prim.Native.Nat.{ℕ, _+_, _<_}
 use native.Mathlib.Omega.{arith}
 use mathlib.Core.Bool.{Bool, true, false, not, _&&_}
+use borrow.Author.Tests.{eq-eqb, ne-eqb}
 use lib.Dec.{eqb}
-use Rattle.truth.proofs.Passed.{eqb-same, eqb-other}
 use Rattle.comparison.specs.Blocks.{Members}
 use Rattle.comparison.specs.Refinement.{Parted, Lined}
 
@@ -18,15 +18,15 @@ choose false false x y z = z
 module _ {X : Type 0} (count c : ℕ) (x y z : X) where
   at-here : choose (eqb c c) (eqb c count) x y z ≡ x
   unfolding choose
-  at-here = ap (λ (b : Bool). choose b (eqb c count) x y z) (eqb-same c)
+  at-here = ap (λ (b : Bool). choose b (eqb c count) x y z) (eq-eqb c c refl)
 
   at-added : c < count → choose (eqb count c) (eqb count count) x y z ≡ y
   unfolding choose
-  at-added h = ap₂ (λ (a b : Bool). choose a b x y z) (eqb-other count c (omega arith)) (eqb-same count)
+  at-added h = ap₂ (λ (a b : Bool). choose a b x y z) (ne-eqb count c (omega arith)) (eq-eqb count count refl)
 
   at-others : (d : ℕ) → d < count → d ≢ c → choose (eqb d c) (eqb d count) x y z ≡ z
   unfolding choose
-  at-others d h f = ap₂ (λ (a b : Bool). choose a b x y z) (eqb-other d c f) (eqb-other d count (omega arith))
+  at-others d h f = ap₂ (λ (a b : Bool). choose a b x y z) (ne-eqb d c f) (ne-eqb d count (omega arith))
 
 unfoldable pub partMembers : ℕ → ℕ → (ℕ → Bool) → Members → Members
 unfolding choose

@@ -8,19 +8,10 @@ use lib.ListN.{length, getD, set, take, drop, length-append, length-drop}
 use lib.Seq.{paste, paste-suc, length-paste, take-paste, drop-paste, take-at, drop-at, drop-drop}
 use Rattle.comparison.specs.Comparison.{nextWords}
 use Rattle.comparison.specs.Lines.{Entry, neg, words, lineWords, head, sheet}
-use Rattle.comparison.proofs.Lines.{length-sheet}
+use Rattle.comparison.proofs.Lines.{words-below, length-sheet}
 
 pub pasted : (d d′ : List ℕ) (at : ℕ) (s : List ℕ) (i : ℕ) → d′ ≡ paste d at s i → at + i < length d → i < length s → set d′ (at + i) (getD s i 0) ≡ paste d at s (i + 1)
 pasted d d′ at s i e h l = rw (e, add-one) (paste-suc d at s i 0 h l)
-
--- the words of one line below others
-words-below : (ls : List Entry) (l : Entry) → lineWords (ls ++ l ∷ []) ≡ lineWords ls ++ words l
-unfolding lineWords words
-words-below [] (Entry.sig i) = refl
-words-below [] (Entry.neg i) = refl
-words-below [] (Entry.alt i j) = refl
-words-below [] (Entry.next i) = refl
-words-below (k ∷ ls) l = ap (λ (r : List ℕ). words k ++ r) (words-below ls l) ∙ sym (append-assoc (words k) (lineWords ls) (words l))
 
 pub sheet-below : (ls : List Entry) (l : Entry) → sheet (ls ++ l ∷ []) ≡ (head (length ls + 1) ++ lineWords ls) ++ words l
 unfolding sheet

@@ -5,33 +5,14 @@ use native.Mathlib.Omega.{arith}
 use mathlib.Core.List.{List, [], _∷_, _++_}
 use mathlib.Core.Bool.{Bool, true, false}
 use Rattle.truth.specs.Passed.{Refusal, none as noRefusal, Question, ask, firstNo, machineQuestions, machineRefusal}
-use Rattle.truth.proofs.Passed.{Numbered, first-table, later-table}
+use Rattle.truth.proofs.Passed.{Every, first-has, Numbered, first-table, later-table}
+use Rattle.truth.proofs.LabelTable.{none-first}
 
 -- ---- any table
 
--- where the whole table refuses nothing, its first part does not
-none-first : (qs rs : List Question) → firstNo (qs ++ rs) .number ≡ 0 → firstNo qs .number ≡ 0
-unfolding firstNo noRefusal
-none-first [] rs e = refl
-none-first (ask k i true ∷ qs) rs e = none-first qs rs e
-none-first (ask k i false ∷ qs) rs e = e
-
-pub none-found : (qs : List Question) → Numbered qs → firstNo qs .number ≡ 0 → firstNo qs ≡ noRefusal
-unfolding firstNo noRefusal
-none-found [] h e = refl
-none-found (ask k i true ∷ qs) h e = none-found qs (h .1) e
-none-found (ask k i false ∷ qs) h e = absurd (omega (arith, h .0))
-
 -- every question is put to sheet i
 abbrev pub PutTo : ℕ → List Question → Type 0
-PutTo i [] = Unit {0}
-PutTo i (ask k j b ∷ qs) = (j ≡ i) × PutTo i qs
-
-sheet-found : (i : ℕ) (qs : List Question) → PutTo i qs → (firstNo qs .number ≡ 0 → ⊥) → firstNo qs .sheet ≡ i
-unfolding firstNo noRefusal
-sheet-found i [] h n = absurd (n refl)
-sheet-found i (ask k j true ∷ qs) h n = sheet-found i qs (h .1) n
-sheet-found i (ask k j false ∷ qs) h n = h .0
+PutTo i = Every (λ k j. j ≡ i)
 
 pub no-sheet : (qs : List Question) → PutTo 0 qs → firstNo qs .sheet ≡ 0
 unfolding firstNo noRefusal
@@ -73,7 +54,7 @@ module _ (i : ℕ) (M : List ℕ) (rs : List Question) where
       let k = machine-number i M in
       let some : firstNo (machineQuestions i M) .number ≡ 0 → ⊥ = λ z. n (e ∙ sym k ∙ z) in
       let t = first-table (machineQuestions i M) rs some in
-      (e ∙ sym k ∙ sym (ap (λ (r : Refusal). r .number) t), sym (ap (λ (r : Refusal). r .sheet) t ∙ sheet-found i (machineQuestions i M) machine-put some))
+      (e ∙ sym k ∙ sym (ap (λ (r : Refusal). r .number) t), sym (ap (λ (r : Refusal). r .sheet) t ∙ first-has (λ k j. j ≡ i) (machineQuestions i M) machine-put some))
 
   pub asked-on : machineRefusal M ≡ 0 → firstNo (machineQuestions i M ++ rs) ≡ firstNo rs
   asked-on e = later-table (machineQuestions i M) rs machine-numbered (machine-number i M ∙ e)

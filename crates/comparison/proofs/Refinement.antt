@@ -15,7 +15,7 @@ use Rattle.comparison.specs.Lines.{Entry, Downward, split}
 use Rattle.comparison.specs.Blocks.{Exact, Members, In, Covers, Disjoint, Inhabited, Meets}
 use Rattle.comparison.specs.Refinement.{Refined, LinesIn, Refinement, Parted, Lined}
 use Rattle.comparison.proofs.ExactLines.{exact-as, exact-kept, split-down, split-length, split-both, split-first}
-use Rattle.comparison.proofs.DecidedBlocks.{at-most-nodes}
+use Rattle.comparison.proofs.CountedBlocks.{at-most-nodes}
 
 -- a fact of the new blocks: of the added one, of c, and of the others
 pub each-block : (count c : ℕ) (P : ℕ → Type 0) → P count → P c → ((d : ℕ) → d < count → d ≢ c → P d) → (d : ℕ) → d < suc count → P d

@@ -6,11 +6,11 @@ use native.Mathlib.Decide.{ℕ-discrete}
 use native.Mathlib.Omega.{arith}
 use mathlib.Core.List.{List}
 use mathlib.Core.Bool.{Bool, true, false, not, _&&_}
-use borrow.Author.Tests.{le-leb}
+use borrow.Author.Tests.{le-leb, ne-eqb}
 use lib.Dec.{T, leb, leb→le, eqb}
 use Rattle.truth.specs.Passed.{kripke, signals, within}
 use Rattle.truth.specs.Rows.{tally}
-use Rattle.truth.proofs.Passed.{intoSet, and-left, passed, within-in, eqb-other}
+use Rattle.truth.proofs.Passed.{intoSet, and-left, passed, within-in}
 use Rattle.truth.proofs.TableLaws.{true-false}
 use Rattle.comparison.specs.Blocks.{Unsplit}
 use Rattle.comparison.specs.Tables.{State, firstOf, secondOf}
@@ -91,7 +91,7 @@ module _ (M₁ M₂ : List ℕ) (st : State) where
             let i : d - 1 ≡ b = omega arith in
             subst (λ (j : ℕ). Unsplit M₁ M₂ (firstOf st′) (secondOf st′) c (intoSet M₁ (firstOf st j)) (intoSet M₂ (secondOf st j))) i (v .done c g))
             (λ f.
-            let free = was-free (st .owed (b + 1)) (eqb (b + 1) d) (eqb-other (b + 1) d f) (sym (e (b + 1)) ∙ k .1) in
+            let free = was-free (st .owed (b + 1)) (eqb (b + 1) d) (ne-eqb (b + 1) d f) (sym (e (b + 1)) ∙ k .1) in
             unsplit-finer M₁ M₂ st st′ (intoSet M₁ (firstOf st b)) (intoSet M₂ (secondOf st b)) finer (λ a m. s .settled a b m (k .0 .was) free) c g))
           where
             was-free : (x y : Bool) → y ≡ false → (x && not y) ≡ false → x ≡ false

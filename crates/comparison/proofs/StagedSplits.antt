@@ -5,9 +5,7 @@ use native.Mathlib.Omega.{arith}
 use mathlib.Core.List.{List, _++_}
 use mathlib.Core.Bool.{Bool, not}
 use lib.ListN.{length}
-use lib.Dec.{T}
 use Rattle.truth.specs.Passed.{signals}
-use Rattle.truth.proofs.Passed.{and-left}
 use Rattle.comparison.specs.Lines.{Entry, split, Holds}
 use Rattle.comparison.specs.Blocks.{Members, Split}
 use Rattle.comparison.specs.Refinement.{LinesIn, Refinement, Parted, Lined}
@@ -17,7 +15,7 @@ use Rattle.comparison.proofs.AddedLines.{entry-above}
 use Rattle.comparison.proofs.ExactLines.{exact-kept, split-down, split-length}
 use Rattle.comparison.proofs.Refinement.{blocks-few, met, splits}
 use Rattle.comparison.proofs.Parts.{partMembers, partLines, parted, lined}
-use Rattle.comparison.proofs.FinerBlocks.{each-after}
+use Rattle.comparison.proofs.FinerBlocks.{finer-split}
 
 pub blocks-fit : (M₁ M₂ : List ℕ) (spare : ℕ) (st : State) → Staged M₁ M₂ spare st → st .count ≤ 128
 blocks-fit M₁ M₂ spare st s =
@@ -132,8 +130,6 @@ module _ (M₁ M₂ : List ℕ) (spare : ℕ) (st : State) (p : ℕ) (x₁ x₂ 
         let number = s .number in
         let below = s .below in
         let short = s .short in
-        let q₁ = b .first .parted in
-        let q₂ = b .second .parted in
         record {
           accepted₁ = s .accepted₁;
           accepted₂ = s .accepted₂;
@@ -145,14 +141,9 @@ module _ (M₁ M₂ : List ℕ) (spare : ℕ) (st : State) (p : ℕ) (x₁ x₂ 
           number = omega arith;
           holds = subst (λ (k : ℕ). Holds (st′ .words) (s .ls ++ split k (lineOf st c) p)) (sym number) (b .words .adds (s .ls) number (s .holds));
           refinement = refinement′;
-          ofNodes = each-after st st′ c p x₁ x₂ h b (OfNodes M₁ M₂ (firstOf st′) (secondOf st′)) (
-            λ s t. w .staged .ofNodes c h .0 s (and-left (firstOf st c s) (not (x₁ s)) (subst T (q₁ .added s) t)),
-            λ s t. w .staged .ofNodes c h .1 s (and-left (secondOf st c s) (not (x₂ s)) (subst T (q₂ .added s) t)),
-          ) (
-            λ s t. w .staged .ofNodes c h .0 s (and-left (firstOf st c s) (x₁ s) (subst T (q₁ .here s) t)),
-            λ s t. w .staged .ofNodes c h .1 s (and-left (secondOf st c s) (x₂ s) (subst T (q₂ .here s) t)),
-          )
-              (λ d l n. (λ s t. w .staged .ofNodes d l .0 s (subst T (q₁ .others d s l n) t), λ s t. w .staged .ofNodes d l .1 s (subst T (q₂ .others d s l n) t)));
+          ofNodes = λ d l.
+              let o = finer-split st st′ c p x₁ x₂ h b .part d l in
+              (λ s t. w .staged .ofNodes (o .0) (o .1) .0 s (o .2 s t), λ s t. w .staged .ofNodes (o .0) (o .1) .1 s (o .3 s t));
           signal = λ i lo hi. entry-above (s .ls) (split (length (s .ls)) (lineOf st c) p) i lo (omega arith) ∙ s .signal i lo hi;
           below = omega arith;
           short = omega arith;

@@ -1,48 +1,32 @@
 -- Whether a block has a start node, by the row of the start nodes that the code makes; and what two such tests say of a block.
 use mathlib.Core.Path.{_≡_, refl, sym, subst}
-use mathlib.Core.Logic.{_⊎_, inl, inr, _↔_, ⊎-elim, by-cases}
+use mathlib.Core.Logic.{inl, inr, _↔_, ⊎-elim, by-cases}
 use Prim.Native.Nat.{ℕ, _+_, _-_, _≤_, _<_}
 use native.Mathlib.Omega.{arith}
 use native.Mathlib.Decide.{decLt}
 use mathlib.Core.List.{List}
 use mathlib.Core.Bool.{Bool, true, false, not, _&&_, Bool·beq}
-use lib.Dec.{T, T-not, not-T, leb, le→leb, eqb}
-use Rattle.truth.specs.Passed.{kripke, nodes, startFlag, each, within}
-use Rattle.truth.proofs.Passed.{and-left, and-right, and-both, within-in, each-at, each-in, find, start-node}
+use lib.Dec.{T, T-not, not-T}
+use Rattle.truth.specs.Passed.{nodes, each}
+use Rattle.truth.proofs.Passed.{and-left, and-right, and-both, each-at, each-in, find, start-node}
+use Rattle.truth.proofs.StartRows.{startTest, start-tested, tested-start}
 use Rattle.truth.proofs.TableLaws.{true-false}
 use Rattle.comparison.specs.Blocks.{Members, HasStart, OneStart}
 use Rattle.comparison.specs.Sides.{OneSided}
 
-module _ (M : List ℕ) (small : nodes M ≤ 128) (x : ℕ → Bool) (starts : (s : ℕ) → x s ≡ (leb s (nodes M) && (within 1 128 s && eqb (startFlag M s) 1))) where
-  start-in : (s : ℕ) → T (kripke M .start s) → T (x s)
-  unfolding kripke
-  start-in s t =
-      let h = start-node M s t in
-      let flag = eqb (startFlag M s) 1 in
-      rw (starts s)
-      (and-both (leb s (nodes M)) (within 1 128 s && flag) (le→leb s (nodes M) (h .1))
-      (and-both (within 1 128 s) flag (within-in 1 128 s (h .0) (omega arith)) (and-right (within 1 (nodes M) s) flag t)))
-
-  in-start : (s : ℕ) → 1 ≤ s → T (x s) → T (kripke M .start s)
-  unfolding kripke within
-  in-start s lo t =
-      let flag = eqb (startFlag M s) 1 in
-      let u = subst T (starts s) t in
-      and-both (within 1 (nodes M) s) flag (and-both (leb 1 s) (leb s (nodes M)) (le→leb 1 s lo) (and-left (leb s (nodes M)) (within 1 128 s && flag) u))
-      (and-right (within 1 128 s) flag (and-right (leb s (nodes M)) (within 1 128 s && flag) u))
-
+module _ (M : List ℕ) (small : nodes M ≤ 128) (x : ℕ → Bool) (starts : (s : ℕ) → x s ≡ startTest M small s) where
   -- the block meets the row
   pub has-start : (mem : Members) (c : ℕ) (r : Bool) → r ≡ not (each 128 (λ s. not (mem c s && x s))) → T r ↔ HasStart M mem c
   unfolding HasStart
   has-start mem c r e = (
     λ t. ⊎-elim
-        (λ f. (f .0, in-start (f .0) (f .1) (and-right (mem c (f .0)) (x (f .0)) (f .3)), and-left (mem c (f .0)) (x (f .0)) (f .3)))
+        (λ f. (f .0, tested-start M small (f .0) (f .1) (subst T (starts (f .0)) (and-right (mem c (f .0)) (x (f .0)) (f .3))), and-left (mem c (f .0)) (x (f .0)) (f .3)))
         (λ none. absurd (T-not (each 128 (λ s. not (mem c s && x s))) (subst T e t) (each-in 128 (λ s. not (mem c s && x s)) none)))
         (find 128 (λ s. mem c s && x s)),
     λ h. rw e (not-T (each 128 (λ s. not (mem c s && x s))) (λ all.
         let n = start-node M (h .0) (h .1) in
         T-not (mem c (h .0) && x (h .0)) (each-at 128 (λ s. not (mem c s && x s)) all (h .0) (n .0) (omega arith))
-        (and-both (mem c (h .0)) (x (h .0)) (h .2) (start-in (h .0) (h .1))))),
+        (and-both (mem c (h .0)) (x (h .0)) (h .2) (subst T (sym (starts (h .0))) (start-tested M small (h .0) (h .1)))))),
   )
 
 -- with the members of the block in another row
@@ -71,8 +55,7 @@ one-start M₁ M₂ m₁ m₂ c false false f g n = absurd (true-false (sym n))
 -- ---- the loop over the blocks
 
 module _ (M₁ M₂ : List ℕ) (m₁ m₂ : Members) (few₁ : nodes M₁ ≤ 128) (few₂ : nodes M₂ ≤ 128) (x₁ x₂ : ℕ → Bool)
-    (starts₁ : (s : ℕ) → x₁ s ≡ (leb s (nodes M₁) && (within 1 128 s && eqb (startFlag M₁ s) 1)))
-    (starts₂ : (s : ℕ) → x₂ s ≡ (leb s (nodes M₂) && (within 1 128 s && eqb (startFlag M₂ s) 1))) where
+    (starts₁ : (s : ℕ) → x₁ s ≡ startTest M₁ few₁ s) (starts₂ : (s : ℕ) → x₂ s ≡ startTest M₂ few₂ s) where
   module _ (c : ℕ) (b₁ b₂ : Bool) (e₁ : b₁ ≡ not (each 128 (λ s. not (m₁ c s && x₁ s)))) (e₂ : b₂ ≡ not (each 128 (λ s. not (m₂ c s && x₂ s)))) where
     pub side-found : (count : ℕ) → c < count → not (Bool·beq b₁ b₂) ≡ true → OneSided M₁ M₂ m₁ m₂ count (c + 1)
     side-found count h n = record {

@@ -37,7 +37,7 @@ module _ (F : Form) (R : List ℕ) (accepted : ruleRefusal F R ≡ 0) where
 
   -- automaton x
   module _ (x : ℕ) (lo : 1 ≤ x) (hi : x ≤ automata R) where
-    initial-in : (1 ≤ initial R x) × (initial R x ≤ states R)
+    pub initial-in : (1 ≤ initial R x) × (initial R x ≤ states R)
     unfolding q9
     initial-in = within-at 1 (states R) (initial R x) (search (and-right, each-at (automata R) _ (answers .nine) x lo hi))
 

@@ -1,43 +1,17 @@
--- Loops along a chain that is read record by record, for whatever is computed over the list that is left, and one step of each
--- computation: `member`, `getD`, `allOf`, `howMany`, and the question that is put to the transitions out of a state.
+-- One step of each computation along an automaton's chain: `member`, `getD`, `allOf`, `howMany`, and the question that is put to the
+-- transitions out of a state.
 use mathlib.Core.Path.{_≡_, refl, sym, _∙_}
 use Prim.Native.Nat.{ℕ, zero, suc, _+_, _-_, _^_, _≤_, _<_}
 use native.Mathlib.Omega.{arith}
-use mathlib.Core.List.{List, [], _∷_, map}
+use mathlib.Core.List.{List, _∷_, map}
 use mathlib.Core.Bool.{Bool, true, false, and-false}
 use borrow.Author.Tests.{eq-eqb, ne-eqb, le-leb, lt-leb}
 use lib.ListN.{length, getD}
 use lib.Dec.{T, eqb, ltb, leb→le}
 use Rattle.sheets.specs.Words.{bit, within, allOf, anyOf, member, indicator, howMany}
-use Rattle.sheets.specs.Records.{stepAt}
 use Rattle.sheets.specs.Rules.{most, fits, lent, automata, states, variables, initial, statesOf, transitionsOf, transitionTarget, mask, distinct, transitionsFit, automatonFits, q9}
-use Rattle.sheets.specs.declared.words.Step.{Step}
-use Rattle.sheets.specs.declared.words.Step.the-variants.{Record, End}
 use Rattle.sheets.proofs.Tests.{and-left}
 use Rattle.sheets.proofs.Search.{each-at}
-use Rattle.sheets.proofs.Records.{handed, rest, rest-spent, rest-ended, rest-goes}
-
--- ---- the loop: what is computed of the whole chain is F of the rest
-
-module _ {A : Type 0} (F : List ℕ → A) (read : ℕ → ℕ → ℕ) (w : ℕ) (whole : A) (f x : ℕ) (inv : whole ≡ F (rest read w f x)) where
-  pub spent : f ≤ 0 → F [] ≡ whole
-  spent h = sym (rw (rest-spent read w f x h) at inv)
-
-  pub ended : {s : Step} → s ≡ stepAt read w x → s ≡ End → F [] ≡ whole
-  ended e d = sym (rw (rest-ended read w f x (sym e ∙ d)) at inv)
-
-  pub goes : {s : Step} {n a b y : ℕ} → 0 < f → s ≡ stepAt read w x → s ≡ Record n a b y → whole ≡ F (n ∷ rest read w (f - 1) y)
-  goes {s} {n} {a} {b} {y} h e d = rw (rest-goes read w f x n a b y h (sym e ∙ d)) at inv
-
--- the words of the record that was read, by its number
-module _ (read : ℕ → ℕ → ℕ) (w x : ℕ) where
-  pub first-word : {s : Step} {n a b y : ℕ} → s ≡ stepAt read w x → s ≡ Record n a b y → a ≡ read n 0
-  first-word {s} {n} {a} {b} {y} e d = let h = handed read w x n a b y (sym e ∙ d) in rw (h .number) (h .first)
-
-  pub second-word : {s : Step} {n a b y : ℕ} → s ≡ stepAt read w x → s ≡ Record n a b y → b ≡ read n 1
-  second-word {s} {n} {a} {b} {y} e d = let h = handed read w x n a b y (sym e ∙ d) in rw (h .number) (h .second)
-
--- ---- one step
 
 module _ (t n : ℕ) (ys : List ℕ) where
   pub member-here : n ≡ t → member t (n ∷ ys) ≡ true
@@ -115,13 +89,13 @@ abbrev pub fitting : List ℕ → ℕ → ℕ → Bool
 fitting R x q = transitionsFit R (variables R x) (statesOf R x) (transitionsOf R q)
 
 module _ (R : List ℕ) (x : ℕ) {n : ℕ} (counted : n ≡ length (statesOf R x)) where
-  pub few-states : n ≤ 16 → automatonFits lent R x ≡ allOf (statesOf R x) (fitting R x)
+  pub fits-if-few : n ≤ 16 → automatonFits lent R x ≡ allOf (statesOf R x) (fitting R x)
   unfolding automatonFits lent fits
-  few-states h = rw (le-leb (length (statesOf R x)) 16 (rw counted at h))
+  fits-if-few h = rw (le-leb (length (statesOf R x)) 16 (rw counted at h))
 
-  pub many-states : 16 < n → automatonFits lent R x ≡ false
+  pub unfit-if-many : 16 < n → automatonFits lent R x ≡ false
   unfolding automatonFits lent fits
-  many-states h = rw (lt-leb (length (statesOf R x)) 16 (rw counted at h))
+  unfit-if-many h = rw (lt-leb (length (statesOf R x)) 16 (rw counted at h))
 
 -- the variables that question 9 has bounded
 pub few-variables : (R : List ℕ) (x : ℕ) → T (q9 lent R) → 1 ≤ x → x ≤ automata R → variables R x ≤ 4

@@ -1,4 +1,4 @@
--- The bits of what the bit operations give: or, and, exclusive or, complement (as MIR computes `!x`), `1 << k` and `(x >> k) & 1`.
+-- The bits of what the bit operations give: or, and, complement (as MIR computes `!x`), `1 << k` and `(x >> k) & 1`.
 use mathlib.Core.Path.{_≡_, refl, sym, ap, _∙_}
 use mathlib.Core.Logic.{_⊎_, inl, inr}
 use Prim.Native.Nat.{ℕ, zero, suc, _+_, _-_, _*_, _/_, _%_, _^_, _≤_, _<_}
@@ -7,7 +7,7 @@ use native.Mathlib.Omega.{arith}
 use mathlib.Core.Bool.{Bool, true, false, not, _&&_, _||_}
 use borrow.Author.Tests.{ne-eqb}
 use lib.Dec.{eqb, eqb·suc-suc, lit<}
-use lib.Bits.{bitAnd, bitOr, bitXor, and-shr, or-shr, xor-shr, and-mod, or-mod, xor-mod, and-mask}
+use lib.Bits.{bitAnd, bitOr, and-shr, or-shr, and-mod, or-mod, and-mask}
 use lib.Pow.{shl-exact, pow-mono}
 use lib.Count.{ones, ones-step}
 use Rattle.sheets.specs.Words.{bit, indicator}
@@ -17,34 +17,30 @@ use Rattle.sheets.proofs.Bits.{odd-or-even, bit-zero, bit-suc}
 abbrev Digit : ℕ → Type 0
 Digit x = (x ≡ 1) ⊎ (x ≡ 0)
 
-or-digits : (x y : ℕ) → Digit x → Digit y → eqb (bitOr x y) 1 ≡ (eqb x 1 || eqb y 1)
-or-digits x y (inl p) (inl q) = rw (p, q)
-or-digits x y (inl p) (inr q) = rw (p, q)
-or-digits x y (inr p) (inl q) = rw (p, q)
-or-digits x y (inr p) (inr q) = rw (p, q)
+-- an operation g that works bit by bit, as f does
+bitwise : (g : ℕ → ℕ → ℕ) (f : Bool → Bool → Bool)
+    → eqb (g 1 1) 1 ≡ f true true → eqb (g 1 0) 1 ≡ f true false → eqb (g 0 1) 1 ≡ f false true → eqb (g 0 0) 1 ≡ f false false
+    → (a b i : ℕ) → g a b / 2 ^ i ≡ g (a / 2 ^ i) (b / 2 ^ i) → g (a / 2 ^ i) (b / 2 ^ i) % 2 ≡ g (a / 2 ^ i % 2) (b / 2 ^ i % 2)
+    → bit (g a b) i ≡ f (bit a i) (bit b i)
+unfolding bit
+bitwise g f tt tf ft ff a b i shr low = rw (shr, low) (digits (a / 2 ^ i % 2) (b / 2 ^ i % 2) (odd-or-even (a / 2 ^ i)) (odd-or-even (b / 2 ^ i)))
+  where
+    digits : (x y : ℕ) → Digit x → Digit y → eqb (g x y) 1 ≡ f (eqb x 1) (eqb y 1)
+    digits x y (inl p) (inl q) = rw (p, q) tt
+    digits x y (inl p) (inr q) = rw (p, q) tf
+    digits x y (inr p) (inl q) = rw (p, q) ft
+    digits x y (inr p) (inr q) = rw (p, q) ff
 
-and-digits : (x y : ℕ) → Digit x → Digit y → eqb (bitAnd x y) 1 ≡ (eqb x 1 && eqb y 1)
-and-digits x y (inl p) (inl q) = rw (p, q)
-and-digits x y (inl p) (inr q) = rw (p, q)
-and-digits x y (inr p) (inl q) = rw p
-and-digits x y (inr p) (inr q) = rw p
+module _ (a b i : ℕ) where
+  pub bit-or : bit (bitOr a b) i ≡ (bit a i || bit b i)
+  bit-or = bitwise bitOr (λ x y. x || y) refl refl refl refl a b i (or-shr a b i) (or-mod (a / 2 ^ i) (b / 2 ^ i) 1)
+
+  pub bit-and : bit (bitAnd a b) i ≡ (bit a i && bit b i)
+  bit-and = bitwise bitAnd (λ x y. x && y) refl refl refl refl a b i (and-shr a b i) (and-mod (a / 2 ^ i) (b / 2 ^ i) 1)
 
 not-digit : (x y : ℕ) → Digit x → y ≡ 1 - x → eqb y 1 ≡ not (eqb x 1)
 not-digit x y (inl p) e = rw (e, p)
 not-digit x y (inr p) e = rw (e, p)
-
-module _ (a b i : ℕ) where
-  pub bit-or : bit (bitOr a b) i ≡ (bit a i || bit b i)
-  unfolding bit
-  bit-or =
-      let e : bitOr a b / 2 ^ i % 2 ≡ bitOr (a / 2 ^ i % 2) (b / 2 ^ i % 2) = ap (λ (x : ℕ). x % 2) (or-shr a b i) ∙ or-mod (a / 2 ^ i) (b / 2 ^ i) 1 in
-      ap (λ (x : ℕ). eqb x 1) e ∙ or-digits (a / 2 ^ i % 2) (b / 2 ^ i % 2) (odd-or-even (a / 2 ^ i)) (odd-or-even (b / 2 ^ i))
-
-  pub bit-and : bit (bitAnd a b) i ≡ (bit a i && bit b i)
-  unfolding bit
-  bit-and =
-      let e : bitAnd a b / 2 ^ i % 2 ≡ bitAnd (a / 2 ^ i % 2) (b / 2 ^ i % 2) = ap (λ (x : ℕ). x % 2) (and-shr a b i) ∙ and-mod (a / 2 ^ i) (b / 2 ^ i) 1 in
-      ap (λ (x : ℕ). eqb x 1) e ∙ and-digits (a / 2 ^ i % 2) (b / 2 ^ i % 2) (odd-or-even (a / 2 ^ i)) (odd-or-even (b / 2 ^ i))
 
 -- `!x` at a width of k bits is (2 ^ k - 1) - x
 pub bit-not : (k a i : ℕ) → a < 2 ^ k → i < k → bit ((2 ^ k - 1) - a) i ≡ not (bit a i)

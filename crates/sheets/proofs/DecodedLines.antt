@@ -1,13 +1,12 @@
 -- A line taken apart: from its operation and question 15 of that operation, and back to question 15.
 use mathlib.Core.Path.{_≡_, refl, sym, _∙_}
 use Prim.Native.Nat.{ℕ, zero, suc}
-use native.Mathlib.Omega.{arith}
 use mathlib.Core.List.{List}
 use mathlib.Core.Bool.{Bool, true, false}
 use Rattle.sheets.specs.Rules.{lent, lineWord, lineFits}
 use Rattle.sheets.specs.Lines.{decodedBy, decoded}
 use Rattle.sheets.specs.declared.lines.Line.{Line}
-use Rattle.sheets.specs.declared.lines.Line.the-variants.{Signal, Negation, Either, SomePath, SomePathNot}
+use Rattle.sheets.specs.declared.lines.Line.the-variants.{Either}
 use Rattle.sheets.specs.declared.lines.Decoded.the-variants.{Formed, Malformed}
 
 -- ---- from the operation `op` and the result b of question 15 of it
@@ -37,26 +36,14 @@ module _ (R : List ℕ) (j op : ℕ) (read : op ≡ lineWord lent R j 0) where
       other (suc (suc (suc (suc (suc n))))) a b c d e = refl
 
   module _ (first : ℕ) (one : first ≡ lineWord lent R j 1) where
-    pub signal : op ≡ 0 → (b : Bool) → b ≡ lineFits lent R j 0 → b ≡ true → Formed (Signal first) ≡ decoded R j
-    unfolding decodedBy
-    signal = rw one (by-fits 0 true)
-
-    pub negation : op ≡ 1 → (b : Bool) → b ≡ lineFits lent R j 1 → b ≡ true → Formed (Negation first) ≡ decoded R j
-    unfolding decodedBy
-    negation = rw one (by-fits 1 true)
+    pub formed : (n : ℕ) (line : ℕ → Line) → decodedBy R j n true ≡ Formed (line (lineWord lent R j 1)) → op ≡ n
+        → (b : Bool) → b ≡ lineFits lent R j n → b ≡ true → Formed (line first) ≡ decoded R j
+    formed n line e o b q h = rw one (sym e ∙ by-fits n true o b q h)
 
     pub either : (second : ℕ) → second ≡ lineWord lent R j 2 → op ≡ 2 → (b : Bool) → b ≡ lineFits lent R j 2 → b ≡ true
         → Formed (Either first second) ≡ decoded R j
     unfolding decodedBy
-    either second two = rw (one, two) (by-fits 2 true)
-
-    pub path : op ≡ 3 → (b : Bool) → b ≡ lineFits lent R j 3 → b ≡ true → Formed (SomePath first) ≡ decoded R j
-    unfolding decodedBy
-    path = rw one (by-fits 3 true)
-
-    pub path-not : op ≡ 4 → (b : Bool) → b ≡ lineFits lent R j 4 → b ≡ true → Formed (SomePathNot first) ≡ decoded R j
-    unfolding decodedBy
-    path-not = rw one (by-fits 4 true)
+    either second two = rw two (formed 2 (λ i. Either i (lineWord lent R j 2)) refl)
 
 -- ---- back to question 15
 
@@ -67,16 +54,16 @@ module _ (R : List ℕ) (j : ℕ) where
     where
       by : (n : ℕ) (b : Bool) → decodedBy R j n b ≡ Formed l → b ≡ true
       by n true e = refl
-      by n false e = let z : _≡_ {A = ℕ} 0 1 = cc in absurd (omega arith)
+      by n false e = cc
 
   malformed-by : (n : ℕ) (b : Bool) → lineFits lent R j n ≡ b → decodedBy R j n b ≡ Malformed → b ≡ false
   unfolding decodedBy lineFits
   malformed-by n false f e = refl
-  malformed-by zero true f e = let z : _≡_ {A = ℕ} 0 1 = cc in absurd (omega arith)
-  malformed-by (suc zero) true f e = let z : _≡_ {A = ℕ} 0 1 = cc in absurd (omega arith)
-  malformed-by (suc (suc zero)) true f e = let z : _≡_ {A = ℕ} 0 1 = cc in absurd (omega arith)
-  malformed-by (suc (suc (suc zero))) true f e = let z : _≡_ {A = ℕ} 0 1 = cc in absurd (omega arith)
-  malformed-by (suc (suc (suc (suc zero)))) true f e = let z : _≡_ {A = ℕ} 0 1 = cc in absurd (omega arith)
+  malformed-by zero true f e = cc
+  malformed-by (suc zero) true f e = cc
+  malformed-by (suc (suc zero)) true f e = cc
+  malformed-by (suc (suc (suc zero))) true f e = cc
+  malformed-by (suc (suc (suc (suc zero)))) true f e = cc
   malformed-by (suc (suc (suc (suc (suc n))))) true f e = sym f
 
   pub malformed-fails : decoded R j ≡ Malformed → lineFits lent R j (lineWord lent R j 0) ≡ false

@@ -11,6 +11,15 @@ use Rattle.sheets.proofs.Tests.{and-left, and-right, and-both}
 use Rattle.sheets.proofs.Search.{each-map}
 use Rattle.sheets.proofs.Questions.{rule-answers, rule-accepted}
 
+-- operations 0 to 4, and all other numbers
+by-operation : (P : ℕ → Type 0) → P 0 → P 1 → P 2 → P 3 → P 4 → ((n : ℕ) → P (suc (suc (suc (suc (suc n)))))) → (op : ℕ) → P op
+by-operation P a b c d e more zero = a
+by-operation P a b c d e more (suc zero) = b
+by-operation P a b c d e more (suc (suc zero)) = c
+by-operation P a b c d e more (suc (suc (suc zero))) = d
+by-operation P a b c d e more (suc (suc (suc (suc zero)))) = e
+by-operation P a b c d e more (suc (suc (suc (suc (suc n))))) = more n
+
 module _ (R : List ℕ) where
   lift-seven : T (q7 lent R) → T (q7 (lifted 6) R)
   unfolding q7 lent lifted
@@ -30,12 +39,7 @@ module _ (R : List ℕ) where
 
   line-fits-same : (j op : ℕ) → lineFits lent R j op ≡ lineFits (lifted 6) R j op
   unfolding lineFits pathFits lent lifted
-  line-fits-same j zero = refl
-  line-fits-same j (suc zero) = refl
-  line-fits-same j (suc (suc zero)) = refl
-  line-fits-same j (suc (suc (suc zero))) = refl
-  line-fits-same j (suc (suc (suc (suc zero)))) = refl
-  line-fits-same j (suc (suc (suc (suc (suc n))))) = refl
+  line-fits-same j = by-operation (λ op. lineFits lent R j op ≡ lineFits (lifted 6) R j op) refl refl refl refl refl (λ n. refl)
 
   pub fifteen-same : q15 lent R ≡ q15 (lifted 6) R
   unfolding q15 lent lifted
@@ -59,12 +63,7 @@ module _ (R : List ℕ) where
 
   line-of-same : (j op : ℕ) → lineOf lent R j op ≡ lineOf (lifted 6) R j op
   unfolding lineOf lent lifted
-  line-of-same j zero = refl
-  line-of-same j (suc zero) = refl
-  line-of-same j (suc (suc zero)) = refl
-  line-of-same j (suc (suc (suc zero))) = refl
-  line-of-same j (suc (suc (suc (suc zero)))) = refl
-  line-of-same j (suc (suc (suc (suc (suc n))))) = refl
+  line-of-same j = by-operation (λ op. lineOf lent R j op ≡ lineOf (lifted 6) R j op) refl refl refl refl refl (λ n. refl)
 
   pub line-same : line lent R ≡ line (lifted 6) R
   unfolding line lent lifted

@@ -9,7 +9,7 @@ pub mod Bounds
 pub mod Chains
 pub mod RisingChains
 pub mod Records
-pub mod ChainTests
+pub mod ChainLoops
 pub mod EachLoops
 pub mod OffsetLoops
 pub mod AutomatonLoops

@@ -2,11 +2,11 @@
 -- position below n passes, a set of positions as the bits of a word, and a table of rows.
 use mathlib.Core.Path.{_≡_, refl, sym, _∙_}
 use mathlib.Core.Logic.{_⊎_, inl, inr, ⊎-elim}
-use Prim.Native.Nat.{ℕ, zero, suc, _+_, _-_, _≤_, _<_}
+use Prim.Native.Nat.{ℕ, zero, suc, _+_, _≤_, _<_}
 use native.Mathlib.Numerals.{add-one}
 use native.Mathlib.Omega.{arith}
 use mathlib.Core.List.{List, [], _∷_}
-use mathlib.Core.Bool.{Bool, true, false, _&&_, _||_}
+use mathlib.Core.Bool.{Bool, true, false, _&&_, _||_, and-true, and-false, or-false, or-assoc}
 use borrow.Author.Tests.{lt-ltb, le-ltb, eq-eqb, ne-eqb}
 use lib.ListN.{length, getD, set}
 use lib.Seq.{getD-set-same, getD-set-other}
@@ -21,18 +21,6 @@ pub same-tests : (a b : Bool) → (T a → T b) → (T b → T a) → a ≡ b
 same-tests true b f g = sym (passed b (f tt))
 same-tests false true f g = absurd (g tt)
 same-tests false false f g = refl
-
-or-no : (x : Bool) → (x || false) ≡ x
-or-no true = refl
-or-no false = refl
-
-and-no : (x : Bool) → (x && false) ≡ false
-and-no true = refl
-and-no false = refl
-
-and-yes : (x : Bool) → (x && true) ≡ x
-and-yes true = refl
-and-yes false = refl
 
 -- below i + 1 is below i, or i
 pub below-split : (i j : ℕ) → j < i + 1 → (j < i) ⊎ (j ≡ i)
@@ -52,14 +40,6 @@ place-of [] x t = absurd t
 place-of (y ∷ ys) x t =
     ⊎-elim (λ u. (0, omega arith, sym (eqb→eq x y u))) (λ u. let r = place-of ys x u in (suc (r .0), omega arith, r .2))
     (or-cases (eqb x y) (member x ys) t)
-
--- what stands at position k of a list that begins with x
-pub first-place : {xs ys : List ℕ} {x k : ℕ} → xs ≡ x ∷ ys → k ≡ 0 → getD xs k 0 ≡ x
-first-place e z = rw (e, z)
-
-pub later-place : {xs ys : List ℕ} {x k : ℕ} → xs ≡ x ∷ ys → (k ≡ 0 → ⊥) → getD xs k 0 ≡ getD ys (k - 1) 0
-later-place {k = zero} e n = absurd (n refl)
-later-place {k = suc k} e n = let d : suc k - 1 ≡ k = omega arith in rw (e, d)
 
 -- ---- some position passes
 
@@ -98,22 +78,18 @@ some-same p q h (suc n) = rw (some-same p q h n, h n)
 
 -- ---- rows joined: x, and M j for each j below k of the set S; one position more
 
-or-more : (x y z : Bool) → ((x || y) || z) ≡ (x || (y || z))
-or-more true y z = refl
-or-more false y z = refl
-
 module _ (S M : ℕ → Bool) (x : Bool) where
   abbrev pub joined : ℕ → Bool
   joined k = x || someBelow k (λ j. S j && M j)
 
   pub joined-none : x ≡ joined 0
-  joined-none = rw (some-none (λ j. S j && M j)) (sym (or-no x))
+  joined-none = rw (some-none (λ j. S j && M j)) (sym (or-false x))
 
   pub joined-yes : (k : ℕ) (h : Bool) → h ≡ joined k → S k ≡ true → (h || M k) ≡ joined (k + 1)
-  joined-yes k h e t = rw (some-more (λ j. S j && M j) k, t, e) (or-more x (someBelow k (λ j. S j && M j)) (M k))
+  joined-yes k h e t = rw (some-more (λ j. S j && M j) k, t, e) (or-assoc x (someBelow k (λ j. S j && M j)) (M k))
 
   pub joined-no : (k : ℕ) (h : Bool) → h ≡ joined k → S k ≡ false → h ≡ joined (k + 1)
-  joined-no k h e t = rw (some-more (λ j. S j && M j) k, t, or-no (someBelow k (λ j. S j && M j))) e
+  joined-no k h e t = rw (some-more (λ j. S j && M j) k, t, or-false (someBelow k (λ j. S j && M j))) e
 
 -- ---- the positions below k that pass, as a set: one position more
 
@@ -129,19 +105,19 @@ module _ (p : ℕ → Bool) (i : ℕ) where
   upTo-more k = ⊎-elim (λ le. ⊎-elim past (λ lt. here (omega arith)) (le-or-gt (k + 1) i)) below (le-or-gt k i)
     where
       below : i < k → upTo (k + 1) ≡ (upTo k || (p k && eqb i k))
-      below l = rw (lt-ltb i k l, lt-ltb i (k + 1) (omega arith), ne-eqb i k (λ e. omega arith), and-no (p k)) (sym (or-no (p i)))
+      below l = rw (lt-ltb i k l, lt-ltb i (k + 1) (omega arith), ne-eqb i k (λ e. omega arith), and-false (p k)) (sym (or-false (p i)))
 
       here : i ≡ k → upTo (k + 1) ≡ (upTo k || (p k && eqb i k))
-      here e = rw (e, lt-ltb k (k + 1) (omega arith), le-ltb k k (omega arith), eq-eqb k k refl) (sym (and-yes (p k)))
+      here e = rw (e, lt-ltb k (k + 1) (omega arith), le-ltb k k (omega arith), eq-eqb k k refl) (sym (and-true (p k)))
 
       past : k + 1 ≤ i → upTo (k + 1) ≡ (upTo k || (p k && eqb i k))
-      past l = rw (le-ltb i k (omega arith), le-ltb i (k + 1) l, ne-eqb i k (λ e. omega arith)) (sym (and-no (p k)))
+      past l = rw (le-ltb i k (omega arith), le-ltb i (k + 1) l, ne-eqb i k (λ e. omega arith)) (sym (and-false (p k)))
 
   pub upTo-yes : (k : ℕ) (h : Bool) → h ≡ upTo k → p k ≡ true → (h || eqb i k) ≡ upTo (k + 1)
   upTo-yes k h e t = rw (upTo-more k, t, e)
 
   pub upTo-no : (k : ℕ) (h : Bool) → h ≡ upTo k → p k ≡ false → h ≡ upTo (k + 1)
-  upTo-no k h e t = rw (upTo-more k, t, or-no (upTo k)) e
+  upTo-no k h e t = rw (upTo-more k, t, or-false (upTo k)) e
 
 -- ---- a table: what each row below k has, after one store more
 

@@ -1,9 +1,9 @@
 -- A sheet that no question refuses, question by question: of the questions headed Machine and of those headed Rules.
-use mathlib.Core.Path.{_≡_, refl, subst}
+use mathlib.Core.Path.{_≡_, refl}
 use Prim.Native.Nat.{ℕ, zero, suc, _≤_}
 use native.Mathlib.Omega.{arith}
 use mathlib.Core.List.{List, [], _∷_, _++_}
-use mathlib.Core.Bool.{Bool, true, false, not}
+use mathlib.Core.Bool.{Bool, true, false}
 use lib.Dec.{T}
 use Rattle.sheets.specs.Questions.{none as noRefusal, Question, ask, firstNo}
 use Rattle.sheets.specs.Machine.{machineRefusal, machineQuestions, q1, q2, q3, q4, q5, q6}
@@ -45,11 +45,28 @@ found qs none = refl
 found qs (yes {k = k} {i = i} {qs = rs} e f) = rw (e, firstNo) (found rs f)
 found qs (no {k = k} {i = i} {qs = rs} e) = rw (e, firstNo) refl
 
+-- ---- what every question of a table has, by its number and its sheet, the first "no" has
+
+abbrev pub Every : (ℕ → ℕ → Type 0) → List Question → Type 0
+Every P [] = Unit {0}
+Every P (ask k i b ∷ qs) = P k i × Every P qs
+
+pub first-has : (P : ℕ → ℕ → Type 0) (qs : List Question) → Every P qs → (firstNo qs .number ≡ 0 → ⊥) → P (firstNo qs .number) (firstNo qs .sheet)
+unfolding firstNo noRefusal
+first-has P [] h n = absurd (n refl)
+first-has P (ask k i true ∷ qs) h n = first-has P qs (h .1) n
+first-has P (ask k i false ∷ qs) h n = h .0
+
 -- ---- one table after another: a question's number is not 0, so that the number 0 says that no question refuses
 
 abbrev pub Numbered : List Question → Type 0
-Numbered [] = Unit {0}
-Numbered (ask k i b ∷ qs) = (1 ≤ k) × Numbered qs
+Numbered = Every (λ k i. 1 ≤ k)
+
+pub none-found : (qs : List Question) → Numbered qs → firstNo qs .number ≡ 0 → firstNo qs ≡ noRefusal
+unfolding firstNo noRefusal
+none-found [] h e = refl
+none-found (ask k i true ∷ qs) h e = none-found qs (h .1) e
+none-found (ask k i false ∷ qs) h e = absurd (omega (arith, h .0))
 
 pub first-table : (qs rs : List Question) → (firstNo qs .number ≡ 0 → ⊥) → firstNo (qs ++ rs) ≡ firstNo qs
 unfolding firstNo noRefusal

@@ -12,9 +12,10 @@ use lib.Dec.{T, T-not, not-T, leb, leb→le, ltb}
 use Rattle.sheets.specs.Words.{bit, member, anyOf, allOf}
 use Rattle.sheets.specs.Rules.{fits, lent, automata, variables, statesOf, transitionsOf, transitionsFit, automatonFits, q12, leads, accepting, passing, reached, walks, unmixed}
 use Rattle.sheets.specs.Positions.{someBelow, inRow, reachedAt, mixing}
-use Rattle.sheets.proofs.Tests.{and-left, and-right, and-both, surely, not-not}
-use Rattle.sheets.proofs.Search.{each-at, any-at, any-in, all-at, fails-at, passing-at, passing-in}
+use Rattle.sheets.proofs.Tests.{and-left, and-right, and-both, surely}
+use Rattle.sheets.proofs.Search.{each-at, any-at, any-in, passing-at, passing-in}
 use Rattle.sheets.proofs.Positions.{same-tests, place-in, place-of, some-at, some-in, some-same}
+use Rattle.sheets.proofs.Walks.{mixes, none-mixes, some-mix}
 
 -- ---- rounds
 
@@ -85,9 +86,6 @@ module _ (R all : List ℕ) (n set : ℕ) (rows reach : List ℕ) (size : n ≡ 
     (leading : (j i : ℕ) → j < n → inRow rows j i ≡ (ltb i n && leads R (getD all j 0) (getD all i 0)))
     (reaching : (j i : ℕ) → j < n → inRow reach j i ≡ reachedAt (inRow rows) n j n i)
     (accepts : (i : ℕ) → bit set i ≡ (ltb i n && accepting R (getD all i 0))) where
-  abbrev mixes : ℕ → ℕ → Bool
-  mixes p q = accepting R p && not (accepting R q) && walks R all p q && walks R all q p
-
   walks-at : (p q : ℕ) → p < n → q < n → inRow reach p q ≡ walks R all (getD all p 0) (getD all q 0)
   unfolding walks
   walks-at p q hp hq = rw (reaching p q hp, ← size) (reach-in R all n size (inRow rows) leading n p q hp hq)
@@ -95,36 +93,30 @@ module _ (R all : List ℕ) (n set : ℕ) (rows reach : List ℕ) (size : n ≡ 
   accepts-at : (p : ℕ) → p < n → bit set p ≡ accepting R (getD all p 0)
   accepts-at p hp = rw (accepts p, lt-ltb p n hp)
 
-  mixes-at : (p q : ℕ) → p < n → q < n → mixing set reach p q ≡ mixes (getD all p 0) (getD all q 0)
+  mixes-at : (p q : ℕ) → p < n → q < n → mixing set reach p q ≡ mixes R all (getD all p 0) (getD all q 0)
   mixes-at p q hp hq = rw (accepts-at p hp, accepts-at q hq, walks-at p q hp hq, walks-at q p hq hp)
 
   mixed-not : T (someBelow n (λ p. someBelow n (mixing set reach p))) → T (unmixed R all) → ⊥
-  unfolding unmixed
   mixed-not t u =
       let a = some-at (λ p. someBelow n (mixing set reach p)) n t in
       let b = some-at (mixing set reach (a .0)) n (a .2) in
-      let p = getD all (a .0) 0 in
-      let q = getD all (b .0) 0 in
-      T-not (mixes p q)
-      (all-at all _ (all-at all _ u p (place-in all (a .0) (omega arith))) q (place-in all (b .0) (omega arith)))
+      none-mixes R all u (getD all (a .0) 0) (getD all (b .0) 0) (place-in all (a .0) (omega arith)) (place-in all (b .0) (omega arith))
       (rw (mixes-at (a .0) (b .0) (a .1) (b .1)) at (b .2))
 
-  mixed-found : T (not (unmixed R all)) → T (someBelow n (λ p. someBelow n (mixing set reach p)))
-  unfolding unmixed
-  mixed-found t =
-      let a = fails-at all (λ p. allOf all (λ q. not (mixes p q))) t in
-      let b = fails-at all (λ q. not (mixes (a .0) q)) (a .2) in
-      let i = place-of all (a .0) (a .1) in
-      let j = place-of all (b .0) (b .1) in
+  mixed-there : T (not (unmixed R all)) → T (someBelow n (λ p. someBelow n (mixing set reach p)))
+  mixed-there t =
+      let r = some-mix R all t in
+      let i = place-of all (r .0) (r .2) in
+      let j = place-of all (r .1) (r .3) in
       let hi : i .0 < n = omega arith in
       let hj : j .0 < n = omega arith in
-      let m : T (mixing set reach (i .0) (j .0)) = rw (mixes-at (i .0) (j .0) hi hj, i .2, j .2) (not-not (mixes (a .0) (b .0)) (b .2)) in
+      let m : T (mixing set reach (i .0) (j .0)) = rw (mixes-at (i .0) (j .0) hi hj, i .2, j .2) (r .4) in
       some-in (λ p. someBelow n (mixing set reach p)) n (i .0) hi (some-in (mixing set reach (i .0)) n (j .0) hj m)
 
   pub unmixed-is : not (someBelow n (λ p. someBelow n (mixing set reach p))) ≡ unmixed R all
   unmixed-is =
       let m = someBelow n (λ p. someBelow n (mixing set reach p)) in
-      same-tests (not m) (unmixed R all) (λ t. surely (unmixed R all) (λ u. T-not m t (mixed-found u))) (λ u. not-T m (λ t. mixed-not t u))
+      same-tests (not m) (unmixed R all) (λ t. surely (unmixed R all) (λ u. T-not m t (mixed-there u))) (λ u. not-T m (λ t. mixed-not t u))
 
 -- question 12 leaves at most 16 positions
 pub few-states : (R : List ℕ) (x : ℕ) → T (q12 lent R) → 1 ≤ x → x ≤ automata R → length (statesOf R x) ≤ 16

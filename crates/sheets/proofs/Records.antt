@@ -3,10 +3,8 @@ use mathlib.Core.Path.{_≡_, refl}
 use Prim.Native.Nat.{ℕ, zero, suc, _+_, _-_, _*_, _≤_, _<_}
 use native.Mathlib.Omega.{arith}
 use mathlib.Core.List.{List, [], _∷_}
-use mathlib.Core.Bool.{Bool, false, _||_}
-use Rattle.sheets.specs.Words.{word, anyOf, chain}
+use Rattle.sheets.specs.Words.{word, chain}
 use Rattle.sheets.specs.Records.{recordWord, stepAt}
-use Rattle.sheets.specs.declared.words.Step.{Step}
 use Rattle.sheets.specs.declared.words.Step.the-variants.{Record, End}
 
 module _ (read : ℕ → ℕ → ℕ) (w : ℕ) where
@@ -57,20 +55,6 @@ module _ (read : ℕ → ℕ → ℕ) (w : ℕ) where
       let k : suc x ≡ n = cc in
       let l : read (suc x) (w - 1) ≡ y = cc in
       rw (d, l, k)
-
-  -- a search along the chain
-  module _ (p : ℕ → Bool) where
-    pub any-spent : (f x : ℕ) → f ≤ 0 → anyOf (rest f x) p ≡ false
-    unfolding anyOf
-    any-spent f x h = rw (rest-spent f x h)
-
-    pub any-ended : (f x : ℕ) → stepAt read w x ≡ End → anyOf (rest f x) p ≡ false
-    unfolding anyOf
-    any-ended f x e = rw (rest-ended f x e)
-
-    pub any-goes : (f x n a b y : ℕ) → 0 < f → stepAt read w x ≡ Record n a b y → anyOf (rest f x) p ≡ (p x || anyOf (rest (f - 1) y) p)
-    unfolding anyOf
-    any-goes f x n a b y h e = rw (rest-goes f x n a b y h e, handed x n a b y e .number)
 
 -- a record from its words
 pub read-record : (ws : List ℕ) (base w x m l a b y : ℕ) → (x ≡ 0 → ⊥) → m ≡ x - 1 → l ≡ w - 1 → a ≡ word ws (base + w * m)

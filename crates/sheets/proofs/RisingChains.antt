@@ -1,27 +1,21 @@
 -- Chains rise: a link leads to a higher number, so the records of a chain stand in rising order, and none is on it twice.
-use mathlib.Core.Path.{_≡_, refl}
-use mathlib.Core.Logic.{_⊎_, inl, inr, ⊎-elim}
+use mathlib.Core.Path.{_≡_}
+use mathlib.Core.Logic.{_⊎_, ⊎-elim}
 use Prim.Native.Nat.{ℕ, zero, suc, _≤_, _<_}
 use native.Mathlib.Omega.{arith}
-use mathlib.Core.List.{List, [], _∷_}
-use mathlib.Core.Bool.{_&&_}
+use mathlib.Core.List.{List}
 use lib.ListN.{length, getD}
-use lib.Dec.{T, leb, leb→le, ltb, ltb→lt, eqb, eqb→eq}
-use Rattle.sheets.specs.Words.{chain, link}
-use Rattle.sheets.specs.Rules.{Form, states, automata, stateWord, initial, statesOf, ruleRefusal, q9, q10}
-use Rattle.sheets.proofs.Tests.{and-left, and-right, or-cases}
-use Rattle.sheets.proofs.Search.{le-or-gt, within-at, each-at}
+use Rattle.sheets.specs.Words.{chain}
+use Rattle.sheets.specs.Rules.{Form, states, automata, stateWord, initial, statesOf, ruleRefusal, q10}
+use Rattle.sheets.proofs.Tests.{and-right}
+use Rattle.sheets.proofs.Search.{le-or-gt, each-at}
+use Rattle.sheets.proofs.Chains.{link-rises}
 use Rattle.sheets.proofs.Questions.{rule-answers}
+use Rattle.sheets.proofs.AcceptedRule.{initial-in}
 
 -- a link is none, or a higher record's number
 abbrev pub Rising : ℕ → (ℕ → ℕ) → Type 0
 Rising m next = (x : ℕ) → 1 ≤ x → x ≤ m → (next x ≡ 0) ⊎ ((x < next x) × (next x ≤ m))
-
-pub link-rises : (m x y : ℕ) → T (link m x y) → (y ≡ 0) ⊎ ((x < y) × (y ≤ m))
-unfolding link
-link-rises m x y t =
-    ⊎-elim (λ u. inl (eqb→eq y 0 u))
-    (λ u. inr (ltb→lt x y (and-left (ltb x y) (leb y m) u), leb→le y m (and-right (ltb x y) (leb y m) u))) (or-cases (eqb y 0) (ltb x y && leb y m) t)
 
 module _ (m : ℕ) (next : ℕ → ℕ) (rising : Rising m next) where
   -- a chain with a record begins with one
@@ -61,13 +55,9 @@ module _ (F : Form) (R : List ℕ) (accepted : ruleRefusal F R ≡ 0) (x : ℕ) 
   links-rise q a b =
       link-rises (states R) q (stateWord R q 2) (search (and-right, each-at (states R) _ (rule-answers F R accepted .ten) q a b))
 
-  first-in : initial R x ≤ states R
-  unfolding q9
-  first-in = within-at 1 (states R) (initial R x) (search (and-right, each-at (automata R) _ (rule-answers F R accepted .nine) x lo hi)) .1
-
   rises-at : (a b : ℕ) → a < b → b < length (statesOf R x) → getD (statesOf R x) a 0 < getD (statesOf R x) b 0
   unfolding statesOf
-  rises-at a b l k = chain-rises (states R) (λ q. stateWord R q 2) links-rise (states R) (initial R x) a b first-in l k
+  rises-at a b l k = chain-rises (states R) (λ q. stateWord R q 2) links-rise (states R) (initial R x) a b (initial-in F R accepted x lo hi .1) l k
 
   pub one-position : (a b : ℕ) → a < length (statesOf R x) → b < length (statesOf R x) → getD (statesOf R x) a 0 ≡ getD (statesOf R x) b 0 → a ≡ b
   one-position a b k l e =

@@ -1,5 +1,5 @@
--- Finite search: the tests `within`, `each` and `some` over 1 to n, and `allOf`, `anyOf`, `member` and `filter` over a list, as
--- statements; all of finitely many numbers have one property or some number has another; so existence is decided.
+-- Finite search: the tests `within`, `each` and `some` over 1 to n, and `allOf`, `anyOf`, `member` and `passing` over a list, as
+-- statements; all of finitely many numbers have one property or some number has another; so what all of them have is decided.
 use mathlib.Core.Path.{_≡_}
 use mathlib.Core.Logic.{_⊎_, inl, inr, ⊎-elim, ⊎-map, ⊎-swap, by-cases}
 use Prim.Native.Nat.{ℕ, zero, suc, _-_, _≤_, _<_}
@@ -77,13 +77,6 @@ all-or-one (suc n) P Q d = join (d n (omega arith)) (all-or-one n P Q (λ i h. d
     join (inl p) (inr y) = inr (y .0, omega arith, y .2)
     join (inl p) (inl f) = inl (λ i h. by-cases (decLt i n) (f i) (λ l. let e : i ≡ n = omega arith in rw e p))
 
--- the same of pairs
-pub all-or-pair : (n m : ℕ) (P Q : ℕ → ℕ → Type 0) → ((i j : ℕ) → i < n → j < m → P i j ⊎ Q i j)
-    → ((i j : ℕ) → i < n → j < m → P i j) ⊎ ((i j : ℕ) × (i < n) × (j < m) × Q i j)
-all-or-pair n m P Q d =
-    ⊎-map (λ h i j a b. h i a j b) (λ r. (r .0, r .2 .0, r .1, r .2 .1, r .2 .2))
-    (all-or-one n (λ i. (j : ℕ) → j < m → P i j) (λ i. (j : ℕ) × (j < m) × Q i j) (λ i a. all-or-one m (P i) (Q i) (λ j b. d i j a b)))
-
 -- the same of 1 to n
 pub all-or-some : (n : ℕ) (P Q : ℕ → Type 0) → ((i : ℕ) → 1 ≤ i → i ≤ n → P i ⊎ Q i) → ((i : ℕ) → 1 ≤ i → i ≤ n → P i) ⊎ Among n Q
 all-or-some n P Q d =
@@ -100,11 +93,6 @@ pub dec-each : (P : ℕ → Type 0) (n : ℕ) → ((i : ℕ) → 1 ≤ i → i �
 dec-each P n d =
     ⊎-elim yes (λ r. no (λ h. r .3 (h (r .0) (r .1) (r .2))))
     (all-or-some n P (λ i. P i → ⊥) (λ i lo hi. by-cases (d i lo hi) inl inr))
-
-pub dec-some : (P : ℕ → Type 0) (n : ℕ) → ((i : ℕ) → 1 ≤ i → i ≤ n → Dec (P i)) → Dec (Among n P)
-dec-some P n d =
-    ⊎-elim (λ h. no (λ r. h (r .0) (r .1) (r .2) (r .3))) yes
-    (all-or-some n (λ i. P i → ⊥) P (λ i lo hi. by-cases (d i lo hi) inr inl))
 
 -- what there is for each number of a decided kind, as a function
 pub chosen : (D : ℕ → Type 0) → ((i : ℕ) → Dec (D i)) → (P : ℕ → ℕ → Type 0) → ((i : ℕ) → D i → (x : ℕ) × P i x)

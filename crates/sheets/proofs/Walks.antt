@@ -100,12 +100,22 @@ module _ (R all : List ℕ) where
       unfolding walks hit
       walks-only q = hit-only (length all) q
 
-  -- the test that finds one
-  abbrev mixing : ℕ → ℕ → Bool
-  mixing p q = accepting R p && not (accepting R q) && walks R all p q && walks R all q p
+  -- two states are mixed, as the test has it: where `unmixed` says yes no two are, and where it says no some two are
+  abbrev pub mixes : ℕ → ℕ → Bool
+  mixes p q = accepting R p && not (accepting R q) && walks R all p q && walks R all q p
+
+  pub none-mixes : T (unmixed R all) → (p q : ℕ) → T (member p all) → T (member q all) → T (mixes p q) → ⊥
+  unfolding unmixed
+  none-mixes t p q on on′ = T-not (mixes p q) (all-at all _ (all-at all _ t p on) q on′)
+
+  pub some-mix : T (not (unmixed R all)) → (p q : ℕ) × T (member p all) × T (member q all) × T (mixes p q)
+  unfolding unmixed
+  some-mix t =
+      let a = fails-at all (λ p. allOf all (λ q. not (mixes p q))) t in
+      let b = fails-at all (λ q. not (mixes (a .0) q)) (a .2) in
+      (a .0, b .0, a .1, b .1, not-not (mixes (a .0) (b .0)) (b .2))
 
   pub unmixed-sound : T (unmixed R all) → Mixed R all → ⊥
-  unfolding unmixed
   unmixed-sound t m =
       let p = m .accepting-state in
       let q = m .rejecting-state in
@@ -113,26 +123,21 @@ module _ (R all : List ℕ) where
       let n = m .rejects in
       let there = walks-all p (m .there) in
       let back = walks-all q (m .back) in
-      let u = all-at all _ (all-at all _ t p (walk-from (m .there))) q (walk-to (m .there)) in
-      T-not (mixing p q) u (search and-both)
-
-  mixed-by : (p q : ℕ) → T (member p all) → T (member q all) → T (mixing p q) → Mixed R all
-  mixed-by p q on on′ t = record {
-    accepting-state = p;
-    rejecting-state = q;
-    accepts = search (and-left, t);
-    rejects = search (and-left, and-right, t);
-    there = walks-only p on q (search (and-left, and-right, t));
-    back = walks-only q on′ p (search (and-right, t));
-  }
+      none-mixes t p q (walk-from (m .there)) (walk-to (m .there)) (search and-both)
 
   -- where the test says no, there is such a pair of states
   pub mixed-found : T (not (unmixed R all)) → Mixed R all
-  unfolding unmixed
   mixed-found t =
-      let a = fails-at all (λ p. allOf all (λ q. not (mixing p q))) t in
-      let b = fails-at all (λ q. not (mixing (a .0) q)) (a .2) in
-      mixed-by (a .0) (b .0) (a .1) (b .1) (not-not (mixing (a .0) (b .0)) (b .2))
+      let r = some-mix t in
+      let m = r .4 in
+      record {
+        accepting-state = r .0;
+        rejecting-state = r .1;
+        accepts = search (and-left, m);
+        rejects = search (and-left, and-right, m);
+        there = walks-only (r .0) (r .2) (r .1) (search (and-left, and-right, m));
+        back = walks-only (r .1) (r .3) (r .0) (search (and-right, m));
+      }
 
   -- question 14's test says yes exactly where there is no such pair of walks
   pub unmixed-exactly : T (unmixed R all) ↔ (Mixed R all → ⊥)

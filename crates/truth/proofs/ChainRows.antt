@@ -2,13 +2,15 @@
 use mathlib.Core.Path.{_≡_, refl, sym, _∙_}
 use mathlib.Core.Logic.{⊎-elim}
 use Prim.Native.Nat.{ℕ, _-_, _≤_, _<_}
+use mathlib.Core.List.{List}
 use mathlib.Core.Bool.{Bool, true, false, _&&_, _||_}
 use borrow.Author.Tests.{eq-eqb, ne-eqb}
 use lib.Dec.{eqb}
 use Rattle.sheets.specs.Words.{within, anyOf}
 use Rattle.sheets.specs.Records.{stepAt}
 use Rattle.sheets.specs.declared.words.Step.the-variants.{Record, End}
-use Rattle.sheets.proofs.Records.{rest, handed, any-spent, any-ended, any-goes}
+use Rattle.sheets.proofs.Records.{rest}
+use Rattle.sheets.proofs.ChainLoops.{spent, ended, searched}
 use Rattle.truth.proofs.TableLaws.{same-or-not}
 
 nothing : (h w : Bool) → (h || (w && false)) ≡ h
@@ -42,14 +44,22 @@ leads read w t f x = within 1 128 t && anyOf (rest read w f x) (λ y. eqb (read 
 
 -- h says whether the row has t, and whole whether it will have it
 module _ (read : ℕ → ℕ → ℕ) (w t : ℕ) (h whole : Bool) where
+  -- b: some record that is left leads to t
+  abbrev together : Bool → Bool
+  together b = h || (within 1 128 t && b)
+
+  abbrev left : List ℕ → Bool
+  left ys = together (anyOf ys (λ y. eqb (read y 0) t))
+
   pub leads-spent : (f x : ℕ) → whole ≡ (h || leads read w t f x) → f ≤ 0 → h ≡ whole
-  leads-spent f x e z = sym (e ∙ rw (any-spent read w (λ y. eqb (read y 0) t) f x z) (nothing h (within 1 128 t)))
+  unfolding anyOf
+  leads-spent f x e z = sym (nothing h (within 1 128 t)) ∙ spent left read w whole f x e z
 
   pub leads-ended : (f x : ℕ) → whole ≡ (h || leads read w t f x) → stepAt read w x ≡ End → h ≡ whole
-  leads-ended f x e z = sym (e ∙ rw (any-ended read w (λ y. eqb (read y 0) t) f x z) (nothing h (within 1 128 t)))
+  unfolding anyOf
+  leads-ended f x e z = sym (nothing h (within 1 128 t)) ∙ ended left read w whole f x e refl z
 
   pub leads-goes : (f x n a b y : ℕ) → whole ≡ (h || leads read w t f x) → 0 < f → stepAt read w x ≡ Record n a b y
       → whole ≡ ((h || (within 1 128 a && eqb t a)) || leads read w t (f - 1) y)
   leads-goes f x n a b y e z s =
-      e ∙ rw (any-goes read w (λ y. eqb (read y 0) t) f x n a b y z s, ← handed read w x n a b y s .first)
-      (one-read h (anyOf (rest read w (f - 1) y) (λ y. eqb (read y 0) t)) t a)
+      searched together read (λ a k. eqb a t) w whole f x e z refl s ∙ one-read h (anyOf (rest read w (f - 1) y) (λ y. eqb (read y 0) t)) t a

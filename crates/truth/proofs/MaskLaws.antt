@@ -2,17 +2,18 @@
 use mathlib.Core.Path.{_≡_, sym, _∙_}
 use Prim.Native.Nat.{ℕ, _-_, _≤_, _<_}
 use mathlib.Core.List.{List}
-use mathlib.Core.Bool.{Bool, false, _&&_, _||_, and-true, and-false, or-false, or-assoc}
+use mathlib.Core.Bool.{Bool, _&&_, _||_, and-true, and-false, or-false, or-assoc}
 use borrow.Author.Tests.{eq-eqb, ne-eqb}
 use lib.ListN.{getD, replicate}
 use lib.Bits.{bitOr}
 use lib.Dec.{eqb}
-use Rattle.sheets.specs.Words.{bit}
+use Rattle.sheets.specs.Words.{bit, anyOf}
 use Rattle.sheets.specs.Records.{stepAt}
 use Rattle.sheets.specs.declared.words.Step.{Step}
 use Rattle.sheets.specs.declared.words.Step.the-variants.{Record, End}
 use Rattle.sheets.proofs.BitLaws.{bit-or, bit-none}
-use Rattle.sheets.proofs.ChainTests.{passes, passes-spent, passes-ended, passes-goes}
+use Rattle.sheets.proofs.Records.{rest}
+use Rattle.sheets.proofs.ChainLoops.{spent, ended, passes, searched}
 use Rattle.truth.proofs.StoredRows.{zero-word}
 
 -- ---- one mask more at the positions of a target
@@ -35,17 +36,17 @@ module _ (states : List ℕ) (target mask : ℕ) (before : List ℕ) (k : ℕ) w
 pub found-none : (n k w : ℕ) (b : Bool) → b ≡ (bit (getD (replicate n 0) k 0) w || b)
 found-none n k w b = rw (zero-word n k, bit-none w)
 
-module _ (read : ℕ → ℕ → ℕ) (width : ℕ) (q : ℕ → ℕ → Bool) (whole found : Bool) (f x : ℕ) (inv : whole ≡ (found || passes read width q f x)) where
-  found-all : passes read width q f x ≡ false → found ≡ whole
-  found-all e = sym (inv ∙ rw e (or-false found))
-
+module _ (read : ℕ → ℕ → ℕ) (width : ℕ) (q : ℕ → ℕ → Bool) (whole found : Bool) (f x : ℕ)
+    (inv : whole ≡ (found || passes read q (rest read width f x))) where
   pub found-spent : f ≤ 0 → found ≡ whole
-  found-spent h = found-all (passes-spent read width q f x h)
+  unfolding anyOf
+  found-spent h = sym (or-false found) ∙ spent (λ ys. found || passes read q ys) read width whole f x inv h
 
   pub found-ended : {s : Step} → s ≡ stepAt read width x → s ≡ End → found ≡ whole
-  found-ended e d = found-all (passes-ended read width q f x (sym e ∙ d))
+  unfolding anyOf
+  found-ended e d = sym (or-false found) ∙ ended (λ ys. found || passes read q ys) read width whole f x inv e d
 
   pub found-more : {s : Step} {n a b y : ℕ} (more : Bool) → more ≡ (found || q a b) → 0 < f → s ≡ stepAt read width x → s ≡ Record n a b y
-      → whole ≡ (more || passes read width q (f - 1) y)
-  found-more {s} {n} {a} {b} {y} more m h e d =
-      rw m (inv ∙ rw (passes-goes read width q f x n a b y h (sym e ∙ d)) (sym (or-assoc found (q a b) (passes read width q (f - 1) y))))
+      → whole ≡ (more || passes read q (rest read width (f - 1) y))
+  found-more {a = a} {b = b} {y = y} more m h e d =
+      rw m (searched (λ b. found || b) read q width whole f x inv h e d ∙ sym (or-assoc found (q a b) (passes read q (rest read width (f - 1) y))))

@@ -17,17 +17,18 @@ use Rattle.truth.specs.Truth.{Keeps}
 use Rattle.truth.specs.Labelling.{StartsIn, Rows, rowBit}
 
 module _ (M : List ℕ) (small : nodes M ≤ 128) where
-  abbrev startTest : ℕ → Bool
+  -- what the row of the start nodes has
+  abbrev pub startTest : ℕ → Bool
   startTest s = leb s (nodes M) && (within 1 128 s && eqb (startFlag M s) 1)
 
-  start-tested : (s : ℕ) → T (kripke M .start s) → T (startTest s)
+  pub start-tested : (s : ℕ) → T (kripke M .start s) → T (startTest s)
   unfolding kripke
   start-tested s t =
       let h = start-node M s t in
       and-both (leb s (nodes M)) _ (subst T (sym (le-leb s (nodes M) (h .1))) tt)
       (and-both (within 1 128 s) (eqb (startFlag M s) 1) (within-in 1 128 s (h .0) (omega arith)) (and-right (within 1 (nodes M) s) (eqb (startFlag M s) 1) t))
 
-  tested-start : (s : ℕ) → 1 ≤ s → T (startTest s) → T (kripke M .start s)
+  pub tested-start : (s : ℕ) → 1 ≤ s → T (startTest s) → T (kripke M .start s)
   unfolding kripke within
   tested-start s lo t =
       let flag = eqb (startFlag M s) 1 in

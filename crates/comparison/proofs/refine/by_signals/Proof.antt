@@ -26,19 +26,23 @@ add-i c = search needs
 
 by-signal-requires : tie.Need-by-signal-requires Inv-loop μ-loop
 by-signal-requires c κs =
-    let at = c .before .before .before .before .before in
-    (at .loop .inv .1 .staged, omega arith, omega (arith, at .before .signals .ensures))
+    let turn = c .before .before .before .before in
+    let at = turn .before in
+    (at .loop .inv .1 .staged, omega arith, omega (arith, turn .loop-test .taken, at .before .signals .ensures))
 
 loop-less : tie.Need-loop-less Inv-loop μ-loop
-loop-less c = search needs
+loop-less c = omega (arith, c .before .before .before .before .before .loop-test .taken)
 
 loop-again : tie.Need-loop-again Inv-loop μ-loop
-loop-again c = (omega arith, signals-more _ _ _ _ _ (c .before .before .before .before .before .before .loop .inv .1) (c .by-signal .ensures))
+loop-again c = (
+  omega (arith, c .before .before .before .before .before .loop-test .taken),
+  signals-more _ _ _ _ _ (c .before .before .before .before .before .before .loop .inv .1) (c .by-signal .ensures),
+)
 
 returns : tie.Need-returns Inv-loop μ-loop
 returns c =
     let at = c .before in
-    let e : at .loop .i ≡ signals (at .before .before .before .before .args .m1 .now) = omega (arith, at .before .signals .ensures) in
+    let e : at .loop .i ≡ signals (at .before .before .before .before .args .m1 .now) = omega (arith, at .before .signals .ensures, c .loop-test .left, at .loop .inv .0) in
     signals-all _ _ _ _ e (at .loop .inv .1)
 
 pub by-signals-spec : {M : Type 1} → statement M

@@ -5,7 +5,8 @@ use borrow.Author.Tests.{not-true, not-false}
 use Rattle.sheets.specs.Words.{allOf}
 use Rattle.sheets.specs.Rules.{lent, automatonFits, statesOf, initial, stateWord}
 use Rattle.sheets.proofs.Records.{rest}
-use Rattle.sheets.proofs.AutomatonLoops.{spent, ended, goes, all-broken, all-next, fitting, few-states, many-states}
+use Rattle.sheets.proofs.ChainLoops.{spent, ended, goes}
+use Rattle.sheets.proofs.AutomatonLoops.{all-broken, all-next, fitting, fits-if-few, unfit-if-many}
 use Rattle.sheets.proofs.automata.automaton_fits.Statement.{statement}
 use Rattle.sheets.proofs.automata.automaton_fits.Tie as tie
 
@@ -19,7 +20,7 @@ chain-length-requires : tie.Need-chain-length-requires Inv-loop μ-loop
 chain-length-requires c κs = search needs
 
 returns : tie.Need-returns Inv-loop μ-loop
-returns c = sym (many-states _ _ (c .before .chain-length .ensures) (c .if1 .taken))
+returns c = sym (unfit-if-many _ _ (c .before .chain-length .ensures) (c .if1 .taken))
 
 states-requires : tie.Need-states-requires Inv-loop μ-loop
 states-requires c κs = search needs
@@ -31,7 +32,7 @@ loop-holds : tie.Need-loop-holds Inv-loop μ-loop
 unfolding statesOf initial
 loop-holds c =
     rw (c .before .states .ensures, c .automaton-word .ensures)
-    (few-states _ _ (c .before .before .before .chain-length .ensures) (c .before .before .if1 .left))
+    (fits-if-few _ _ (c .before .before .before .chain-length .ensures) (c .before .before .if1 .left))
 
 state-requires : tie.Need-state-requires Inv-loop μ-loop
 state-requires c κs = search needs

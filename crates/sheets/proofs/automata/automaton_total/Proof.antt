@@ -8,7 +8,8 @@ use borrow.Author.Tests.{not-true, not-false}
 use Rattle.sheets.specs.Words.{allOf}
 use Rattle.sheets.specs.Rules.{automatonTotal, total, transitionsOf, variables, statesOf, initial, stateWord}
 use Rattle.sheets.proofs.Records.{rest}
-use Rattle.sheets.proofs.AutomatonLoops.{spent, ended, goes, all-broken, all-next}
+use Rattle.sheets.proofs.ChainLoops.{spent, ended, goes}
+use Rattle.sheets.proofs.AutomatonLoops.{all-broken, all-next}
 use Rattle.sheets.proofs.automata.automaton_total.Statement.{statement}
 use Rattle.sheets.proofs.automata.automaton_total.Tie as tie
 

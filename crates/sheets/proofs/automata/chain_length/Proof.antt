@@ -1,16 +1,21 @@
 -- `chain_length` meets its contract. The invariant: the states counted, and those of the chain that is left, are all. The measure is the countdown.
 use borrow.Author.Needs.{needs}
-use mathlib.Core.Path.{_≡_, sym, _∙_}
-use Prim.Native.Nat.{_+_, _≤_}
+use mathlib.Core.Path.{_≡_}
+use Prim.Native.Nat.{ℕ, _+_, _≤_}
+use mathlib.Core.List.{List}
 use native.Mathlib.Omega.{arith}
 use lib.ListN.{length}
 use Rattle.sheets.specs.Rules.{statesOf, initial, stateWord}
-use Rattle.sheets.proofs.Records.{rest, rest-spent, rest-ended, rest-goes}
+use Rattle.sheets.proofs.Records.{rest}
+use Rattle.sheets.proofs.ChainLoops.{spent, ended, goes}
 use Rattle.sheets.proofs.automata.chain_length.Statement.{statement}
 use Rattle.sheets.proofs.automata.chain_length.Tie as tie
 
+abbrev counted : ℕ → List ℕ → ℕ
+counted n qs = n + length qs
+
 abbrev Inv-loop : tie.InvT-loop
-Inv-loop r x left₀ q₀ n₀ left q n = (n + left ≤ left₀) × (length (statesOf r x) ≡ n + length (rest (stateWord r) 3 left q))
+Inv-loop r x left₀ q₀ n₀ left q n = (n + left ≤ left₀) × (length (statesOf r x) ≡ counted n (rest (stateWord r) 3 left q))
 
 abbrev μ-loop : tie.MeasureT-loop
 μ-loop r x left₀ q₀ n₀ left q n = left
@@ -36,10 +41,10 @@ enum-told c = search needs
 
 returns : tie.Need-returns Inv-loop μ-loop
 returns c =
-    let e = rest-ended (stateWord (c .before .before .before .before .before .before .before .before .args .r .now)) 3
-    (c .before .before .before .before .loop .left) (c .before .before .before .before .loop .q)
-    (sym (c .before .before .state .ensures) ∙ c .enum-told .given .1) in
-    sym (rw e at (c .before .before .before .before .loop .inv .1) ∙ omega arith)
+    let a = c .before .before .before .before .before .before .before .before .args in
+    let at = c .before .before .before .before .loop in
+    let e = ended (counted (at .n)) (stateWord (a .r .now)) 3 _ (at .left) (at .q) (at .inv .1) (c .before .before .state .ensures) (c .enum-told .given .1) in
+    omega (arith, e)
 
 add-n : tie.Need-add-n Inv-loop μ-loop
 add-n c = search needs
@@ -52,15 +57,18 @@ loop-less c = search needs
 
 loop-again : tie.Need-loop-again Inv-loop μ-loop
 loop-again c =
-    let at = c .before .before .before .before .before .loop in
-    let e = rest-goes (stateWord (c .before .before .before .before .before .before .before .before .before .args .r .now)) 3 (at .left) (at .q) _ _ _ _
-    (c .before .before .before .before .loop-test .taken) (sym (c .before .before .before .state .ensures) ∙ c .before .step .given .1) in
-    (omega arith, omega (arith, rw e at (at .inv .1)))
+    let s = c .before .before .before in
+    let a = s .before .before .before .before .before .before .args in
+    let at = s .before .before .loop in
+    let e = goes (counted (at .n)) (stateWord (a .r .now)) 3 _ (at .left) (at .q) (at .inv .1) (s .before .loop-test .taken) (s .state .ensures) (c .before .step .given .1) in
+    (omega arith, omega (arith, e))
 
 returns-2 : tie.Need-returns-2 Inv-loop μ-loop
 returns-2 c =
-    let e = rest-spent (stateWord (c .before .before .before .before .before .args .r .now)) 3 (c .before .loop .left) (c .before .loop .q) (c .loop-test .left) in
-    sym (rw e at (c .before .loop .inv .1) ∙ omega arith)
+    let a = c .before .before .before .before .before .args in
+    let at = c .before .loop in
+    let e = spent (counted (at .n)) (stateWord (a .r .now)) 3 _ (at .left) (at .q) (at .inv .1) (c .loop-test .left) in
+    omega (arith, e)
 
 pub chain-length-spec : {M : Type 1} → statement M
 chain-length-spec =

@@ -4,7 +4,8 @@ use mathlib.Core.Path.{_≡_, sym, _∙_}
 use Rattle.sheets.specs.Words.{member, anyOf}
 use Rattle.sheets.specs.Rules.{statesOf, initial, stateWord}
 use Rattle.sheets.proofs.Records.{rest}
-use Rattle.sheets.proofs.AutomatonLoops.{spent, ended, goes, member-here, member-next}
+use Rattle.sheets.proofs.ChainLoops.{spent, ended, goes}
+use Rattle.sheets.proofs.AutomatonLoops.{member-here, member-next}
 use Rattle.sheets.proofs.automata.on_chain.Statement.{statement}
 use Rattle.sheets.proofs.automata.on_chain.Tie as tie
 

@@ -1,19 +1,17 @@
 -- `q13` meets its contract. The invariant: each automaton passed is total. The measure is the number of those left.
 use borrow.Author.Needs.{needs}
-use mathlib.Core.Path.{_≡_, sym, _∙_}
-use mathlib.Core.Bool.{true}
-use Prim.Native.Nat.{_+_, _-_, _≤_}
+use mathlib.Core.Path.{sym, _∙_}
+use Prim.Native.Nat.{_-_}
 use native.Mathlib.Omega.{arith}
 use borrow.Author.Tests.{not-true, not-false}
-use Rattle.sheets.specs.Words.{each}
 use Rattle.sheets.specs.Rules.{automata, automatonTotal, q13}
-use Rattle.sheets.proofs.EachLoops.{each-none, each-next, each-broken}
+use Rattle.sheets.proofs.EachLoops.{Tested, each-starts, each-goes, each-stops, each-ends}
 use Rattle.sheets.proofs.AutomatonLoops.{few-variables}
 use Rattle.sheets.proofs.automata.q13.Statement.{statement}
 use Rattle.sheets.proofs.automata.q13.Tie as tie
 
 abbrev Inv-loop : tie.InvT-loop
-Inv-loop r a x₀ x = (x ≤ a) × (each x (automatonTotal r) ≡ true)
+Inv-loop r a x₀ x = Tested (automatonTotal r) a x
 
 abbrev μ-loop : tie.MeasureT-loop
 μ-loop r a x₀ x = a - x
@@ -22,7 +20,7 @@ automata-requires : tie.Need-automata-requires Inv-loop μ-loop
 automata-requires c κs = search needs
 
 loop-holds : tie.Need-loop-holds Inv-loop μ-loop
-loop-holds c = (omega arith, each-none _)
+loop-holds c = each-starts _ _
 
 add-x : tie.Need-add-x Inv-loop μ-loop
 add-x c = search needs
@@ -33,25 +31,23 @@ automaton-total-requires c κs = few-variables _ _ (c .before .before .before .b
 returns : tie.Need-returns Inv-loop μ-loop
 unfolding q13
 returns c =
-    let R = c .before .before .before .before .before .before .args .r .now in
-    sym (each-broken (automatonTotal R) (automata R) (c .before .before .before .loop .x + 1) (omega arith)
-    (omega (arith, c .before .before .before .before .automata .ensures)) (sym (c .before .automaton-total .ensures) ∙ not-true _ (c .if1 .taken)))
+    let turn = c .before .before in
+    let read = turn .before .before in
+    let no = sym (c .before .automaton-total .ensures) ∙ not-true _ (c .if1 .taken) in
+    sym (each-stops (automatonTotal (read .before .before .args .r .now)) (read .automata .ensures) (turn .loop-test .taken) no)
 
 loop-less : tie.Need-loop-less Inv-loop μ-loop
 loop-less c = search needs
 
 loop-again : tie.Need-loop-again Inv-loop μ-loop
-loop-again c = (
-  omega arith,
-  each-next (automatonTotal (c .before .before .before .before .before .before .args .r .now)) _ (c .before .before .before .loop .inv .1)
-      (sym (c .before .automaton-total .ensures) ∙ not-false _ (c .if1 .left)),
-)
+loop-again c =
+    let turn = c .before .before in
+    let yes = sym (c .before .automaton-total .ensures) ∙ not-false _ (c .if1 .left) in
+    each-goes (automatonTotal (turn .before .before .before .before .args .r .now)) (turn .loop-test .taken) (turn .before .loop .inv) yes
 
 returns-2 : tie.Need-returns-2 Inv-loop μ-loop
 unfolding q13
-returns-2 c =
-    let e : c .before .loop .x ≡ automata (c .before .before .before .before .args .r .now) = omega (arith, c .before .before .automata .ensures) in
-    sym (rw e at (c .before .loop .inv .1))
+returns-2 c = sym (each-ends _ (c .before .before .automata .ensures) (c .loop-test .left) (c .before .loop .inv))
 
 pub q13-spec : {M : Type 1} → statement M
 q13-spec =

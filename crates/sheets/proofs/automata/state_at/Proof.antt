@@ -6,7 +6,8 @@ use Prim.Native.Nat.{ℕ}
 use lib.ListN.{getD}
 use Rattle.sheets.specs.Rules.{statesOf, initial, stateWord}
 use Rattle.sheets.proofs.Records.{rest}
-use Rattle.sheets.proofs.AutomatonLoops.{spent, ended, goes, get-here, get-next}
+use Rattle.sheets.proofs.ChainLoops.{spent, ended, goes}
+use Rattle.sheets.proofs.AutomatonLoops.{get-here, get-next}
 use Rattle.sheets.proofs.automata.state_at.Statement.{statement}
 use Rattle.sheets.proofs.automata.state_at.Tie as tie
 

@@ -8,7 +8,8 @@ use native.Mathlib.Omega.{arith}
 use Rattle.sheets.specs.Words.{bit, howMany}
 use Rattle.sheets.specs.Rules.{transitionsOf, transitionWord, mask}
 use Rattle.sheets.proofs.Records.{rest}
-use Rattle.sheets.proofs.AutomatonLoops.{spent, ended, goes, second-word, count-one, count-none}
+use Rattle.sheets.proofs.ChainLoops.{spent, ended, goes, second-word}
+use Rattle.sheets.proofs.AutomatonLoops.{count-one, count-none}
 use Rattle.sheets.proofs.automata.takers.Statement.{statement}
 use Rattle.sheets.proofs.automata.takers.Tie as tie
 

@@ -7,7 +7,8 @@ use Prim.Native.Nat.{ℕ}
 use Rattle.sheets.specs.Words.{member, anyOf}
 use Rattle.sheets.specs.Rules.{transitionWord, transitionTarget}
 use Rattle.sheets.proofs.Records.{rest}
-use Rattle.sheets.proofs.AutomatonLoops.{spent, ended, goes, first-word, member-here, member-next}
+use Rattle.sheets.proofs.ChainLoops.{spent, ended, goes, first-word}
+use Rattle.sheets.proofs.AutomatonLoops.{member-here, member-next}
 use Rattle.sheets.proofs.automata.target_met.Statement.{statement}
 use Rattle.sheets.proofs.automata.target_met.Tie as tie
 

@@ -8,7 +8,8 @@ use borrow.Author.Tests.{not-true, not-false}
 use Rattle.sheets.specs.Words.{allOf}
 use Rattle.sheets.specs.Rules.{variables, statesOf, transitionsOf, transitionsFit, transitionWord, transitionTarget, mask, distinct}
 use Rattle.sheets.proofs.Records.{rest}
-use Rattle.sheets.proofs.AutomatonLoops.{spent, ended, goes, first-word, second-word, fit-wide, fit-outside, fit-twice, fit-next}
+use Rattle.sheets.proofs.ChainLoops.{spent, ended, goes, first-word, second-word}
+use Rattle.sheets.proofs.AutomatonLoops.{fit-wide, fit-outside, fit-twice, fit-next}
 use Rattle.sheets.proofs.automata.transitions_fit.Statement.{statement}
 use Rattle.sheets.proofs.automata.transitions_fit.Tie as tie
 

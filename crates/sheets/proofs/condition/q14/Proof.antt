@@ -1,13 +1,12 @@
 -- `q14` meets its contract. The invariant: automata 1 to x are unmixed. The measure is what is left of their number.
-use mathlib.Core.Path.{_≡_, sym, _∙_}
-use Prim.Native.Nat.{ℕ, _+_, _-_, _≤_}
+use mathlib.Core.Path.{sym, _∙_}
+use Prim.Native.Nat.{ℕ, _+_, _-_}
 use native.Mathlib.Omega.{arith}
 use mathlib.Core.List.{List}
-use mathlib.Core.Bool.{Bool, true}
+use mathlib.Core.Bool.{Bool}
 use borrow.Author.Tests.{not-true, not-false}
-use Rattle.sheets.specs.Words.{each}
 use Rattle.sheets.specs.Rules.{automata, statesOf, unmixed, q14}
-use Rattle.sheets.proofs.EachLoops.{each-none, each-next, each-broken}
+use Rattle.sheets.proofs.EachLoops.{Tested, each-starts, each-goes, each-stops, each-ends}
 use Rattle.sheets.proofs.ReachedPositions.{few-states}
 use borrow.Author.Needs.{needs}
 use Rattle.sheets.proofs.condition.q14.Statement.{statement}
@@ -17,7 +16,7 @@ abbrev test : List ℕ → ℕ → Bool
 test r x = unmixed r (statesOf r x)
 
 abbrev Inv-loop : tie.InvT-loop
-Inv-loop r k x₀ x = (x ≤ k) × (each x (test r) ≡ true)
+Inv-loop r k x₀ x = Tested (test r) k x
 
 abbrev μ-loop : tie.MeasureT-loop
 μ-loop r k x₀ x = k - x
@@ -26,7 +25,7 @@ automata-requires : tie.Need-automata-requires Inv-loop μ-loop
 automata-requires c κs = search needs
 
 loop-holds : tie.Need-loop-holds Inv-loop μ-loop
-loop-holds c = (omega arith, each-none _)
+loop-holds c = each-starts _ _
 
 add-x : tie.Need-add-x Inv-loop μ-loop
 add-x c = search needs
@@ -39,24 +38,23 @@ unmixed-requires c κs =
 returns : tie.Need-returns Inv-loop μ-loop
 unfolding q14
 returns c =
-    let r = c .before .before .before .before .before .before .args .r .now in
-    let u = sym (c .before .unmixed .ensures) ∙ not-true (c .before .unmixed .result) (c .if1 .taken) in
-    sym (each-broken (test r) (automata r) (c .before .before .before .loop .x + 1) (omega arith) (omega (arith, c .before .before .before .before .automata .ensures)) u)
+    let turn = c .before .before in
+    let read = turn .before .before in
+    let no = sym (c .before .unmixed .ensures) ∙ not-true _ (c .if1 .taken) in
+    sym (each-stops (test (read .before .before .args .r .now)) (read .automata .ensures) (turn .loop-test .taken) no)
 
 loop-less : tie.Need-loop-less Inv-loop μ-loop
 loop-less c = search needs
 
 loop-again : tie.Need-loop-again Inv-loop μ-loop
 loop-again c =
-    let r = c .before .before .before .before .before .before .args .r .now in
-    let u = sym (c .before .unmixed .ensures) ∙ not-false (c .before .unmixed .result) (c .if1 .left) in
-    (omega arith, each-next (test r) (c .before .before .before .loop .x) (c .before .before .before .loop .inv .1) u)
+    let turn = c .before .before in
+    let yes = sym (c .before .unmixed .ensures) ∙ not-false _ (c .if1 .left) in
+    each-goes (test (turn .before .before .before .before .args .r .now)) (turn .loop-test .taken) (turn .before .loop .inv) yes
 
 returns-2 : tie.Need-returns-2 Inv-loop μ-loop
 unfolding q14
-returns-2 c =
-    let e : c .before .loop .x ≡ automata (c .before .before .before .before .args .r .now) = omega (arith, c .before .before .automata .ensures) in
-    sym (rw e at (c .before .loop .inv .1))
+returns-2 c = sym (each-ends _ (c .before .before .automata .ensures) (c .loop-test .left) (c .before .loop .inv))
 
 pub q14-spec : {M : Type 1} → statement M
 q14-spec =

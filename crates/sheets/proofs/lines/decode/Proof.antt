@@ -1,6 +1,9 @@
 -- `decode` meets its contract: a line of operation 0 to 4 by question 15 of that operation; a line of any other is malformed.
+use mathlib.Core.Path.{refl}
 use Rattle.sheets.specs.Rules.{lineFits}
-use Rattle.sheets.proofs.DecodedLines.{unfit, unknown, signal, negation, either, path, path-not}
+use Rattle.sheets.specs.Lines.{decodedBy}
+use Rattle.sheets.specs.declared.lines.Line.the-variants.{Signal, Negation, SomePath, SomePathNot}
+use Rattle.sheets.proofs.DecodedLines.{unfit, unknown, formed, either}
 use borrow.Author.Needs.{needs}
 use Rattle.sheets.proofs.lines.decode.Statement.{statement}
 use Rattle.sheets.proofs.lines.decode.Tie as tie
@@ -15,17 +18,19 @@ signal-fits-requires : tie.Need-signal-fits-requires
 signal-fits-requires c κs = search needs
 
 returns : tie.Need-returns
+unfolding decodedBy
 returns c =
     let a = c .before .before .before .before .before .before .args in
-    signal (a .r .now) (a .j) _ (c .before .before .before .before .line-word .ensures) _ (c .before .before .before .line-word2 .ensures) (c .before .before .match .keys1) _ (c .before .signal-fits .ensures) (c .if1 .taken)
+    formed (a .r .now) (a .j) _ (c .before .before .before .before .line-word .ensures) _ (c .before .before .before .line-word2 .ensures) 0 Signal refl (c .before .before .match .keys1) _ (c .before .signal-fits .ensures) (c .if1 .taken)
 
 negation-fits-requires : tie.Need-negation-fits-requires
 negation-fits-requires c κs = search needs
 
 returns-2 : tie.Need-returns-2
+unfolding decodedBy
 returns-2 c =
     let a = c .before .before .before .before .before .before .args in
-    negation (a .r .now) (a .j) _ (c .before .before .before .before .line-word .ensures) _ (c .before .before .before .line-word2 .ensures) (c .before .before .match .keys2) _ (c .before .negation-fits .ensures) (c .if2 .taken)
+    formed (a .r .now) (a .j) _ (c .before .before .before .before .line-word .ensures) _ (c .before .before .before .line-word2 .ensures) 1 Negation refl (c .before .before .match .keys2) _ (c .before .negation-fits .ensures) (c .if2 .taken)
 
 either-fits-requires : tie.Need-either-fits-requires
 either-fits-requires c κs = search needs
@@ -43,19 +48,19 @@ path-fits-requires : tie.Need-path-fits-requires
 path-fits-requires c κs = search needs
 
 returns-4 : tie.Need-returns-4
-unfolding lineFits
+unfolding decodedBy lineFits
 returns-4 c =
     let a = c .before .before .before .before .before .before .args in
-    path (a .r .now) (a .j) _ (c .before .before .before .before .line-word .ensures) _ (c .before .before .before .line-word2 .ensures) (c .before .before .match .keys4) _ (c .before .path-fits .ensures) (c .if4 .taken)
+    formed (a .r .now) (a .j) _ (c .before .before .before .before .line-word .ensures) _ (c .before .before .before .line-word2 .ensures) 3 SomePath refl (c .before .before .match .keys4) _ (c .before .path-fits .ensures) (c .if4 .taken)
 
 path-fits-requires-2 : tie.Need-path-fits-requires-2
 path-fits-requires-2 c κs = search needs
 
 returns-5 : tie.Need-returns-5
-unfolding lineFits
+unfolding decodedBy lineFits
 returns-5 c =
     let a = c .before .before .before .before .before .before .args in
-    path-not (a .r .now) (a .j) _ (c .before .before .before .before .line-word .ensures) _ (c .before .before .before .line-word2 .ensures) (c .before .before .match .keys5) _ (c .before .path-fits2 .ensures) (c .if5 .taken)
+    formed (a .r .now) (a .j) _ (c .before .before .before .before .line-word .ensures) _ (c .before .before .before .line-word2 .ensures) 4 SomePathNot refl (c .before .before .match .keys5) _ (c .before .path-fits2 .ensures) (c .if5 .taken)
 
 returns-6 : tie.Need-returns-6
 returns-6 c =

@@ -1,14 +1,12 @@
 -- `lines_refusal` meets its contract. The invariant: the lines passed pass question 15. The measure is how many are left.
-use mathlib.Core.Path.{_≡_, sym, _∙_}
-use native.Mathlib.Omega.{arith}
-use Prim.Native.Nat.{ℕ, _+_, _-_, _≤_}
+use mathlib.Core.Path.{sym, _∙_}
+use Prim.Native.Nat.{ℕ, _-_}
 use mathlib.Core.List.{List}
-use mathlib.Core.Bool.{Bool, true}
-use Rattle.sheets.specs.Words.{each}
+use mathlib.Core.Bool.{Bool}
 use Rattle.sheets.specs.Rules.{lent, lines, lineWord, lineFits, q15}
 use Rattle.sheets.proofs.Questions.{found, none, yes, no}
 use Rattle.sheets.proofs.DecodedLines.{formed-fits, malformed-fails}
-use Rattle.sheets.proofs.EachLoops.{each-none, each-next, each-broken}
+use Rattle.sheets.proofs.EachLoops.{Tested, each-starts, each-goes, each-stops, each-ends}
 use borrow.Author.Needs.{needs}
 use Rattle.sheets.proofs.lines.lines_refusal.Statement.{statement}
 use Rattle.sheets.proofs.lines.lines_refusal.Tie as tie
@@ -17,7 +15,7 @@ abbrev test : List ℕ → ℕ → Bool
 test r j = lineFits lent r j (lineWord lent r j 0)
 
 abbrev Inv-loop : tie.InvT-loop
-Inv-loop r l j₀ j = (j ≤ l) × (each j (test r) ≡ true)
+Inv-loop r l j₀ j = Tested (test r) l j
 
 abbrev μ-loop : tie.MeasureT-loop
 μ-loop r l j₀ j = l - j
@@ -26,7 +24,7 @@ lines-requires : tie.Need-lines-requires Inv-loop μ-loop
 lines-requires c κs = search needs
 
 loop-holds : tie.Need-loop-holds Inv-loop μ-loop
-loop-holds c = (omega arith, each-none _)
+loop-holds c = each-starts _ _
 
 add-j : tie.Need-add-j Inv-loop μ-loop
 add-j c = search needs
@@ -42,10 +40,9 @@ loop-less c = search needs
 
 loop-again : tie.Need-loop-again Inv-loop μ-loop
 loop-again c =
-    let r = c .before .before .before .before .before .before .before .args .r .now in
-    let j = c .before .before .before .before .loop .j + 1 in
-    let f = formed-fits r j _ (sym (c .before .before .decode .ensures) ∙ c .enum-told .given .1) in
-    (omega arith, each-next (test r) _ (c .before .before .before .before .loop .inv .1) f)
+    let turn = c .before .before .before in
+    let r = turn .before .before .before .before .args .r .now in
+    each-goes (test r) (turn .loop-test .taken) (turn .before .loop .inv) (formed-fits r _ _ (sym (c .before .before .decode .ensures) ∙ c .enum-told .given .1))
 
 enum-told-2 : tie.Need-enum-told-2 Inv-loop μ-loop
 enum-told-2 c = search needs
@@ -53,16 +50,15 @@ enum-told-2 c = search needs
 returns : tie.Need-returns Inv-loop μ-loop
 unfolding q15
 returns c =
-    let r = c .before .before .before .before .before .before .before .args .r .now in
-    let j = c .before .before .before .before .loop .j + 1 in
-    let f = malformed-fails r j (sym (c .before .before .decode .ensures) ∙ c .enum-told2 .given .1) in
-    sym (found _ (no (each-broken (test r) (lines r) j (omega arith) (omega (arith, c .before .before .before .before .before .lines .ensures)) f)))
+    let turn = c .before .before .before in
+    let read = turn .before .before in
+    let r = read .before .before .args .r .now in
+    let f = malformed-fails r _ (sym (c .before .before .decode .ensures) ∙ c .enum-told2 .given .1) in
+    sym (found _ (no (each-stops (test r) (read .lines .ensures) (turn .loop-test .taken) f)))
 
 returns-2 : tie.Need-returns-2 Inv-loop μ-loop
 unfolding q15
-returns-2 c =
-    let e : c .before .loop .j ≡ lines (c .before .before .before .before .args .r .now) = omega (arith, c .before .before .lines .ensures) in
-    sym (found _ (yes (rw e at (c .before .loop .inv .1)) none))
+returns-2 c = sym (found _ (yes (each-ends _ (c .before .before .lines .ensures) (c .loop-test .left) (c .before .loop .inv)) none))
 
 pub lines-refusal-spec : {M : Type 1} → statement M
 lines-refusal-spec =

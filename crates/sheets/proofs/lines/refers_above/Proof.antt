@@ -1,13 +1,13 @@
 -- `refers_above` meets its contract. The invariant: the words passed refer to lines above. The measure is how many are left.
-use mathlib.Core.Path.{_≡_, sym, _∙_}
+use mathlib.Core.Path.{_≡_, refl, sym, _∙_}
 use native.Mathlib.Omega.{arith}
-use Prim.Native.Nat.{ℕ, _+_, _-_, _≤_}
+use Prim.Native.Nat.{ℕ, _+_, _-_}
 use mathlib.Core.List.{List}
-use mathlib.Core.Bool.{Bool, true}
-use Rattle.sheets.specs.Words.{within, each}
+use mathlib.Core.Bool.{Bool}
+use Rattle.sheets.specs.Words.{within}
 use Rattle.sheets.specs.Rules.{lent, lineWord, refersAbove}
 use Rattle.sheets.proofs.Bounds.{inside, outside}
-use Rattle.sheets.proofs.EachLoops.{each-none, each-next, each-broken}
+use Rattle.sheets.proofs.EachLoops.{Tested, each-starts, each-goes, each-stops, each-ends}
 use borrow.Author.Needs.{needs}
 use Rattle.sheets.proofs.lines.refers_above.Statement.{statement}
 use Rattle.sheets.proofs.lines.refers_above.Tie as tie
@@ -16,13 +16,13 @@ abbrev test : List ℕ → ℕ → ℕ → ℕ → Bool
 test r j c i = within 1 (j - 1) (lineWord lent r j (c + i))
 
 abbrev Inv-loop : tie.InvT-loop
-Inv-loop r j c n i₀ i = (i ≤ n) × (each i (test r j c) ≡ true)
+Inv-loop r j c n i₀ i = Tested (test r j c) n i
 
 abbrev μ-loop : tie.MeasureT-loop
 μ-loop r j c n i₀ i = n - i
 
 loop-holds : tie.Need-loop-holds Inv-loop μ-loop
-loop-holds c = (omega arith, each-none _)
+loop-holds c = each-starts _ _
 
 add-i : tie.Need-add-i Inv-loop μ-loop
 add-i c = search needs
@@ -41,7 +41,7 @@ returns c =
     let w = lineWord lent (a .r .now) (a .j) (a .c + i) in
     let e : w ≡ 0 = sym (c .before .line-word .ensures) ∙ c .if1 .taken in
     let f = outside 1 (a .j - 1) w (λ l h. omega arith) in
-    sym (each-broken (test (a .r .now) (a .j) (a .c)) (a .n) i (omega arith) (omega arith) f)
+    sym (each-stops (test (a .r .now) (a .j) (a .c)) refl (c .before .before .loop-test .taken) f)
 
 returns-2 : tie.Need-returns-2 Inv-loop μ-loop
 unfolding refersAbove
@@ -50,7 +50,7 @@ returns-2 c =
     let i = c .before .before .before .before .loop .i + 1 in
     let w = lineWord lent (a .r .now) (a .j) (a .c + i) in
     let f = outside 1 (a .j - 1) w (λ l h. omega (arith, c .before .before .line-word .ensures)) in
-    sym (each-broken (test (a .r .now) (a .j) (a .c)) (a .n) i (omega arith) (omega arith) f)
+    sym (each-stops (test (a .r .now) (a .j) (a .c)) refl (c .before .before .before .loop-test .taken) f)
 
 loop-less : tie.Need-loop-less Inv-loop μ-loop
 loop-less c = search needs
@@ -62,13 +62,11 @@ loop-again c =
     let w = lineWord lent (a .r .now) (a .j) (a .c + i) in
     let e = c .before .before .line-word .ensures in
     let f = inside 1 (a .j - 1) w (omega (arith, c .before .if1 .left)) (omega arith) in
-    (omega arith, each-next (test (a .r .now) (a .j) (a .c)) _ (c .before .before .before .before .loop .inv .1) f)
+    each-goes (test (a .r .now) (a .j) (a .c)) (c .before .before .before .loop-test .taken) (c .before .before .before .before .loop .inv) f
 
 returns-3 : tie.Need-returns-3 Inv-loop μ-loop
 unfolding refersAbove
-returns-3 c =
-    let e : c .before .loop .i ≡ c .before .before .before .args .n = omega arith in
-    sym (rw e at (c .before .loop .inv .1))
+returns-3 c = sym (each-ends _ refl (c .loop-test .left) (c .before .loop .inv))
 
 pub refers-above-spec : {M : Type 1} → statement M
 refers-above-spec =

@@ -1,3 +1,4 @@
+-- `edge_word` meets its contract: the place is a sum of words below 2 ^ 16, so that it does not wrap, and it is the definition's.
 use borrow.Author.Needs.{needs}
 use Rattle.sheets.specs.Machine.{edgeWord}
 use Rattle.sheets.proofs.machine.edge_word.Statement.{statement}
@@ -32,7 +33,7 @@ word-requires c κs = search needs
 
 returns : tie.Need-returns
 unfolding edgeWord
-returns c = cc
+returns c = rw (c .before .before .nodes .ensures, c .before .monus .ensures) at (c .word .ensures)
 
 pub edge-word-spec : {M : Type 1} → statement M
 edge-word-spec =

@@ -1,3 +1,4 @@
+-- `node_word` meets its contract: the place is a sum of words below 2 ^ 16, so that it does not wrap, and it is the definition's.
 use borrow.Author.Needs.{needs}
 use Rattle.sheets.specs.Machine.{nodeWord}
 use Rattle.sheets.proofs.machine.node_word.Statement.{statement}
@@ -20,7 +21,7 @@ word-requires c κs = search needs
 
 returns : tie.Need-returns
 unfolding nodeWord
-returns c = cc
+returns c = rw (c .before .monus .ensures) at (c .word .ensures)
 
 pub node-word-spec : {M : Type 1} → statement M
 node-word-spec =

@@ -1,9 +1,8 @@
+-- `q1` meets its contract: the bounds are tested one after another, each on the word that was read.
 use borrow.Author.Needs.{needs}
-use mathlib.Core.Path.{_≡_}
-use mathlib.Core.Bool.{true, false}
+use mathlib.Core.Path.{sym, _∙_}
 use borrow.Author.Tests.{le-leb, lt-leb, not-true, not-false}
-use Rattle.sheets.specs.Words.{within}
-use Rattle.sheets.specs.Machine.{q1, nodes, signals, edges}
+use Rattle.sheets.specs.Machine.{q1}
 use Rattle.sheets.proofs.machine.q1.Statement.{statement}
 use Rattle.sheets.proofs.machine.q1.Tie as tie
 
@@ -20,9 +19,8 @@ within-requires c κs = search needs
 returns-2 : tie.Need-returns-2
 unfolding q1
 returns-2 c =
-    let m = c .before .before .before .before .before .args .m .now in
-    let e : within 1 128 (nodes m) ≡ false = cc (not-true (c .before .within .result) (c .if2 .taken)) in
-    simp (le-leb 3 _ (c .before .before .before .if1 .left), e)
+    let w = rw (c .before .before .nodes .ensures) at (sym (c .before .within .ensures) ∙ not-true _ (c .if2 .taken)) in
+    simp (le-leb 3 _ (c .before .before .before .if1 .left), w)
 
 signals-requires : tie.Need-signals-requires
 signals-requires c κs = search needs
@@ -33,10 +31,10 @@ within-requires-2 c κs = search needs
 returns-3 : tie.Need-returns-3
 unfolding q1
 returns-3 c =
-    let m = c .before .before .before .before .before .before .before .before .args .m .now in
-    let e : within 1 128 (nodes m) ≡ true = cc (not-false (c .before .before .before .before .within .result) (c .before .before .before .if2 .left)) in
-    let f : within 1 16 (signals m) ≡ false = cc (not-true (c .before .within2 .result) (c .if3 .taken)) in
-    simp (le-leb 3 _ (c .before .before .before .before .before .before .if1 .left), e, f)
+    let if2 = c .before .before .before in
+    let w = rw (if2 .before .before .nodes .ensures) at (sym (if2 .before .within .ensures) ∙ not-false _ (if2 .if2 .left)) in
+    let w2 = rw (c .before .before .signals .ensures) at (sym (c .before .within2 .ensures) ∙ not-true _ (c .if3 .taken)) in
+    simp (le-leb 3 _ (if2 .before .before .before .if1 .left), w, w2)
 
 edges-requires : tie.Need-edges-requires
 edges-requires c κs = search needs
@@ -47,11 +45,11 @@ within-requires-3 c κs = search needs
 returns-4 : tie.Need-returns-4
 unfolding q1
 returns-4 c =
-    let m = c .before .before .before .before .before .before .before .before .before .before .args .m .now in
-    let e : within 1 128 (nodes m) ≡ true = cc (not-false (c .before .before .before .before .before .before .within .result) (c .before .before .before .before .before .if2 .left)) in
-    let f : within 1 16 (signals m) ≡ true = cc (not-false (c .before .before .before .within2 .result) (c .before .before .if3 .left)) in
-    let g : c .within3 .result ≡ within 1 2048 (edges m) = cc in
-    simp (le-leb 3 _ (c .before .before .before .before .before .before .before .before .if1 .left), e, f, g)
+    let if3 = c .before .before in
+    let if2 = if3 .before .before .before in
+    let w = rw (if2 .before .before .nodes .ensures) at (sym (if2 .before .within .ensures) ∙ not-false _ (if2 .if2 .left)) in
+    let w2 = rw (if3 .before .before .signals .ensures) at (sym (if3 .before .within2 .ensures) ∙ not-false _ (if3 .if3 .left)) in
+    simp (le-leb 3 _ (if2 .before .before .before .if1 .left), w, w2) (rw (c .before .edges .ensures) at (c .within3 .ensures))
 
 pub q1-spec : {M : Type 1} → statement M
 q1-spec =

@@ -1,5 +1,5 @@
+-- `q2` meets its contract: the words read are below 2 ^ 16, so that no sum wraps.
 use borrow.Author.Needs.{needs}
-use mathlib.Core.Path.{_≡_}
 use Rattle.sheets.specs.Machine.{q2}
 use Rattle.sheets.proofs.machine.q2.Statement.{statement}
 use Rattle.sheets.proofs.machine.q2.Tie as tie
@@ -30,7 +30,7 @@ add-result-2 c = search needs
 
 returns : tie.Need-returns
 unfolding q2
-returns c = cc
+returns c = rw (← (c .before .nodes .ensures), ← (c .edges .ensures))
 
 pub q2-spec : {M : Type 1} → statement M
 q2-spec =

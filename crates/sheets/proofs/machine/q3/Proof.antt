@@ -1,14 +1,14 @@
-use mathlib.Core.Path.{_≡_, sym, _∙_}
+-- `q3` meets its contract. The invariant: the nodes passed have only the machine's signals, and a start flag of 0 or 1. The measure is how
+-- many are left.
+use mathlib.Core.Path.{sym, _∙_}
 use borrow.Author.Needs.{needs}
 use borrow.Author.Tests.{not-true, not-false, le-leb, lt-leb}
-use native.Mathlib.Omega.{arith}
-use Prim.Native.Nat.{ℕ, _+_, _-_, _^_, _≤_, _<_}
+use Prim.Native.Nat.{ℕ, _-_, _^_}
 use mathlib.Core.List.{List}
-use mathlib.Core.Bool.{Bool, true, false, _&&_}
+use mathlib.Core.Bool.{Bool, _&&_}
 use lib.Dec.{leb, ltb}
-use Rattle.sheets.specs.Words.{each}
 use Rattle.sheets.specs.Machine.{q3, nodes, signals, nodeWord, startFlag}
-use Rattle.sheets.proofs.EachLoops.{each-none, each-next, each-broken}
+use Rattle.sheets.proofs.EachLoops.{Tested, each-starts, each-goes, each-stops, each-ends}
 use Rattle.sheets.proofs.machine.q3.Statement.{statement}
 use Rattle.sheets.proofs.machine.q3.Tie as tie
 
@@ -16,7 +16,7 @@ abbrev test : List ℕ → ℕ → Bool
 test m s = ltb (nodeWord m s 0) (2 ^ signals m) && leb (nodeWord m s 1) 1
 
 abbrev Inv-loop : tie.InvT-loop
-Inv-loop m n a s₀ s = (s ≤ n) × (each s (test m) ≡ true)
+Inv-loop m n a s₀ s = Tested (test m) n s
 
 abbrev μ-loop : tie.MeasureT-loop
 μ-loop m n a s₀ s = n - s
@@ -28,7 +28,7 @@ signals-requires : tie.Need-signals-requires Inv-loop μ-loop
 signals-requires c κs = search needs
 
 loop-holds : tie.Need-loop-holds Inv-loop μ-loop
-loop-holds c = (omega arith, each-none _)
+loop-holds c = each-starts _ _
 
 add-s : tie.Need-add-s Inv-loop μ-loop
 add-s c = search needs
@@ -42,11 +42,11 @@ below-power-requires c κs = search needs
 returns : tie.Need-returns Inv-loop μ-loop
 unfolding q3 startFlag
 returns c =
-    let m = c .before .before .before .before .before .before .before .before .args .m .now in
-    let s = c .before .before .before .before .loop .s + 1 in
-    let e : ltb (nodeWord m s 0) (2 ^ signals m) ≡ false = cc (not-true (c .before .below-power .result) (c .if1 .taken)) in
-    let f : test m s ≡ false = rw e in
-    sym (each-broken (test m) (nodes m) s (omega arith) (omega (arith, c .before .before .before .before .before .before .nodes .ensures)) f)
+    let turn = c .before .before .before in
+    let read = turn .before .before in
+    let m = read .before .before .before .args .m .now in
+    let b = rw (read .signals .ensures, c .before .before .node-word .ensures) at (sym (c .before .below-power .ensures) ∙ not-true _ (c .if1 .taken)) in
+    sym (each-stops (test m) (read .before .nodes .ensures) (turn .loop-test .taken) (rw b))
 
 node-word-requires-2 : tie.Need-node-word-requires-2 Inv-loop μ-loop
 node-word-requires-2 c κs = search needs
@@ -54,30 +54,30 @@ node-word-requires-2 c κs = search needs
 returns-2 : tie.Need-returns-2 Inv-loop μ-loop
 unfolding q3 startFlag
 returns-2 c =
-    let m = c .before .before .before .before .before .before .before .before .before .before .args .m .now in
-    let s = c .before .before .before .before .before .before .loop .s + 1 in
-    let e : ltb (nodeWord m s 0) (2 ^ signals m) ≡ true = cc (not-false (c .before .before .before .below-power .result) (c .before .before .if1 .left)) in
-    let l : 1 < nodeWord m s 1 = omega (arith, c .before .node-word2 .ensures) in
-    let f : test m s ≡ false = rw (e, lt-leb (nodeWord m s 1) 1 l) in
-    sym (each-broken (test m) (nodes m) s (omega arith) (omega (arith, c .before .before .before .before .before .before .before .before .nodes .ensures)) f)
+    let if1 = c .before .before in
+    let turn = if1 .before .before .before in
+    let read = turn .before .before in
+    let m = read .before .before .before .args .m .now in
+    let b = rw (read .signals .ensures, if1 .before .before .node-word .ensures) at (sym (if1 .before .below-power .ensures) ∙ not-false _ (if1 .if1 .left)) in
+    let l = rw (c .before .node-word2 .ensures) at (lt-leb _ 1 (c .if2 .taken)) in
+    sym (each-stops (test m) (read .before .nodes .ensures) (turn .loop-test .taken) (rw (b, l)))
 
 loop-less : tie.Need-loop-less Inv-loop μ-loop
 loop-less c = search needs
 
 loop-again : tie.Need-loop-again Inv-loop μ-loop
 loop-again c =
-    let m = c .before .before .before .before .before .before .before .before .before .before .args .m .now in
-    let s = c .before .before .before .before .before .before .loop .s + 1 in
-    let e : ltb (nodeWord m s 0) (2 ^ signals m) ≡ true = cc (not-false (c .before .before .before .below-power .result) (c .before .before .if1 .left)) in
-    let l : nodeWord m s 1 ≤ 1 = omega (arith, c .before .node-word2 .ensures) in
-    let f : test m s ≡ true = rw (e, le-leb (nodeWord m s 1) 1 l) in
-    (omega arith, each-next (test m) _ (c .before .before .before .before .before .before .loop .inv .1) f)
+    let if1 = c .before .before in
+    let turn = if1 .before .before .before in
+    let read = turn .before .before in
+    let m = read .before .before .before .args .m .now in
+    let b = rw (read .signals .ensures, if1 .before .before .node-word .ensures) at (sym (if1 .before .below-power .ensures) ∙ not-false _ (if1 .if1 .left)) in
+    let l = rw (c .before .node-word2 .ensures) at (le-leb _ 1 (c .if2 .left)) in
+    each-goes (test m) (turn .loop-test .taken) (turn .before .loop .inv) (rw (b, l))
 
 returns-3 : tie.Need-returns-3 Inv-loop μ-loop
 unfolding q3 startFlag
-returns-3 c =
-    let e : c .before .loop .s ≡ nodes (c .before .before .before .before .before .args .m .now) = omega (arith, c .before .before .before .nodes .ensures) in
-    sym (rw e at (c .before .loop .inv .1))
+returns-3 c = sym (each-ends _ (c .before .before .before .nodes .ensures) (c .loop-test .left) (c .before .loop .inv))
 
 pub q3-spec : {M : Type 1} → statement M
 q3-spec =

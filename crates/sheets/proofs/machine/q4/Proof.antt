@@ -1,13 +1,13 @@
-use mathlib.Core.Path.{_≡_, sym, _∙_}
+-- `q4` meets its contract. The invariant: the nodes passed have an edge. The measure is how many are left.
+use mathlib.Core.Path.{sym, _∙_}
 use borrow.Author.Needs.{needs}
 use borrow.Author.Tests.{not-true, not-false}
-use native.Mathlib.Omega.{arith}
-use Prim.Native.Nat.{ℕ, _+_, _-_, _≤_}
+use Prim.Native.Nat.{ℕ, _-_}
 use mathlib.Core.List.{List}
-use mathlib.Core.Bool.{Bool, true, false}
-use Rattle.sheets.specs.Words.{within, each}
+use mathlib.Core.Bool.{Bool}
+use Rattle.sheets.specs.Words.{within}
 use Rattle.sheets.specs.Machine.{q4, nodes, edges, nodeWord}
-use Rattle.sheets.proofs.EachLoops.{each-none, each-next, each-broken}
+use Rattle.sheets.proofs.EachLoops.{Tested, each-starts, each-goes, each-stops, each-ends}
 use Rattle.sheets.proofs.machine.q4.Statement.{statement}
 use Rattle.sheets.proofs.machine.q4.Tie as tie
 
@@ -15,7 +15,7 @@ abbrev test : List ℕ → ℕ → Bool
 test m s = within 1 (edges m) (nodeWord m s 2)
 
 abbrev Inv-loop : tie.InvT-loop
-Inv-loop m n e s₀ s = (s ≤ n) × (each s (test m) ≡ true)
+Inv-loop m n e s₀ s = Tested (test m) n s
 
 abbrev μ-loop : tie.MeasureT-loop
 μ-loop m n e s₀ s = n - s
@@ -27,7 +27,7 @@ edges-requires : tie.Need-edges-requires Inv-loop μ-loop
 edges-requires c κs = search needs
 
 loop-holds : tie.Need-loop-holds Inv-loop μ-loop
-loop-holds c = (omega arith, each-none _)
+loop-holds c = each-starts _ _
 
 add-s : tie.Need-add-s Inv-loop μ-loop
 add-s c = search needs
@@ -41,24 +41,24 @@ within-requires c κs = search needs
 returns : tie.Need-returns Inv-loop μ-loop
 unfolding q4
 returns c =
-    let m = c .before .before .before .before .before .before .before .before .args .m .now in
-    let e : test m (c .before .before .before .before .loop .s + 1) ≡ false = cc (not-true (c .before .within .result) (c .if1 .taken)) in
-    sym (each-broken (test m) (nodes m) (c .before .before .before .before .loop .s + 1) (omega arith) (omega (arith, c .before .before .before .before .before .before .nodes .ensures)) e)
+    let turn = c .before .before .before in
+    let read = turn .before .before in
+    let w = rw (read .edges .ensures, c .before .before .node-word .ensures) at (sym (c .before .within .ensures) ∙ not-true _ (c .if1 .taken)) in
+    sym (each-stops (test (read .before .before .before .args .m .now)) (read .before .nodes .ensures) (turn .loop-test .taken) w)
 
 loop-less : tie.Need-loop-less Inv-loop μ-loop
 loop-less c = search needs
 
 loop-again : tie.Need-loop-again Inv-loop μ-loop
 loop-again c =
-    let m = c .before .before .before .before .before .before .before .before .args .m .now in
-    let e : test m (c .before .before .before .before .loop .s + 1) ≡ true = cc (not-false (c .before .within .result) (c .if1 .left)) in
-    (omega arith, each-next (test m) _ (c .before .before .before .before .loop .inv .1) e)
+    let turn = c .before .before .before in
+    let read = turn .before .before in
+    let w = rw (read .edges .ensures, c .before .before .node-word .ensures) at (sym (c .before .within .ensures) ∙ not-false _ (c .if1 .left)) in
+    each-goes (test (read .before .before .before .args .m .now)) (turn .loop-test .taken) (turn .before .loop .inv) w
 
 returns-2 : tie.Need-returns-2 Inv-loop μ-loop
 unfolding q4
-returns-2 c =
-    let e : c .before .loop .s ≡ nodes (c .before .before .before .before .before .args .m .now) = omega (arith, c .before .before .before .nodes .ensures) in
-    sym (rw e at (c .before .loop .inv .1))
+returns-2 c = sym (each-ends _ (c .before .before .before .nodes .ensures) (c .loop-test .left) (c .before .loop .inv))
 
 pub q4-spec : {M : Type 1} → statement M
 q4-spec =

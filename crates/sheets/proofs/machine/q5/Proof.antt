@@ -1,13 +1,13 @@
-use mathlib.Core.Path.{_≡_, sym, _∙_}
+-- `q5` meets its contract. The invariant: the edges passed lead to nodes, and their links rise. The measure is how many are left.
+use mathlib.Core.Path.{sym, _∙_}
 use borrow.Author.Needs.{needs}
-use native.Mathlib.Omega.{arith}
-use Prim.Native.Nat.{ℕ, _+_, _-_, _≤_}
+use Prim.Native.Nat.{ℕ, _-_}
 use mathlib.Core.List.{List}
-use Rattle.sheets.proofs.EachLoops.{each-none, each-next, each-broken}
 use borrow.Author.Tests.{not-true, not-false}
-use mathlib.Core.Bool.{Bool, true, false, _&&_}
-use Rattle.sheets.specs.Words.{within, each, link}
+use mathlib.Core.Bool.{Bool, _&&_}
+use Rattle.sheets.specs.Words.{within, link}
 use Rattle.sheets.specs.Machine.{q5, nodes, edges, edgeWord, target}
+use Rattle.sheets.proofs.EachLoops.{Tested, each-starts, each-goes, each-stops, each-ends}
 use Rattle.sheets.proofs.machine.q5.Statement.{statement}
 use Rattle.sheets.proofs.machine.q5.Tie as tie
 
@@ -15,7 +15,7 @@ abbrev test : List ℕ → ℕ → Bool
 test m x = within 1 (nodes m) (edgeWord m x 0) && link (edges m) x (edgeWord m x 1)
 
 abbrev Inv-loop : tie.InvT-loop
-Inv-loop m n e x₀ x = (x ≤ e) × (each x (test m) ≡ true)
+Inv-loop m n e x₀ x = Tested (test m) e x
 
 abbrev μ-loop : tie.MeasureT-loop
 μ-loop m n e x₀ x = e - x
@@ -27,7 +27,7 @@ edges-requires : tie.Need-edges-requires Inv-loop μ-loop
 edges-requires c κs = search needs
 
 loop-holds : tie.Need-loop-holds Inv-loop μ-loop
-loop-holds c = (omega arith, each-none _)
+loop-holds c = each-starts _ _
 
 add-x : tie.Need-add-x Inv-loop μ-loop
 add-x c = search needs
@@ -41,11 +41,11 @@ within-requires c κs = search needs
 returns : tie.Need-returns Inv-loop μ-loop
 unfolding q5 target
 returns c =
-    let m = c .before .before .before .before .before .before .before .before .args .m .now in
-    let x = c .before .before .before .before .loop .x + 1 in
-    let e : within 1 (nodes m) (edgeWord m x 0) ≡ false = cc (not-true (c .before .within .result) (c .if1 .taken)) in
-    let f : test m x ≡ false = rw e in
-    sym (each-broken (test m) (edges m) x (omega arith) (omega (arith, c .before .before .before .before .before .edges .ensures)) f)
+    let turn = c .before .before .before in
+    let read = turn .before .before in
+    let m = read .before .before .before .args .m .now in
+    let w = rw (read .before .nodes .ensures, c .before .before .edge-word .ensures) at (sym (c .before .within .ensures) ∙ not-true _ (c .if1 .taken)) in
+    sym (each-stops (test m) (read .edges .ensures) (turn .loop-test .taken) (rw w))
 
 edge-word-requires-2 : tie.Need-edge-word-requires-2 Inv-loop μ-loop
 edge-word-requires-2 c κs = search needs
@@ -56,30 +56,30 @@ link-requires c κs = search needs
 returns-2 : tie.Need-returns-2 Inv-loop μ-loop
 unfolding q5 target
 returns-2 c =
-    let m = c .before .before .before .before .before .before .before .before .before .before .before .args .m .now in
-    let x = c .before .before .before .before .before .before .before .loop .x + 1 in
-    let e : within 1 (nodes m) (edgeWord m x 0) ≡ true = cc (not-false (c .before .before .before .before .within .result) (c .before .before .before .if1 .left)) in
-    let l : link (edges m) x (edgeWord m x 1) ≡ false = cc (not-true (c .before .link .result) (c .if2 .taken)) in
-    let f : test m x ≡ false = rw (e, l) in
-    sym (each-broken (test m) (edges m) x (omega arith) (omega (arith, c .before .before .before .before .before .before .before .before .edges .ensures)) f)
+    let if1 = c .before .before .before in
+    let turn = if1 .before .before .before in
+    let read = turn .before .before in
+    let m = read .before .before .before .args .m .now in
+    let w = rw (read .before .nodes .ensures, if1 .before .before .edge-word .ensures) at (sym (if1 .before .within .ensures) ∙ not-false _ (if1 .if1 .left)) in
+    let l = rw (read .edges .ensures, c .before .before .edge-word2 .ensures) at (sym (c .before .link .ensures) ∙ not-true _ (c .if2 .taken)) in
+    sym (each-stops (test m) (read .edges .ensures) (turn .loop-test .taken) (rw (w, l)))
 
 loop-less : tie.Need-loop-less Inv-loop μ-loop
 loop-less c = search needs
 
 loop-again : tie.Need-loop-again Inv-loop μ-loop
 loop-again c =
-    let m = c .before .before .before .before .before .before .before .before .before .before .before .args .m .now in
-    let x = c .before .before .before .before .before .before .before .loop .x + 1 in
-    let e : within 1 (nodes m) (edgeWord m x 0) ≡ true = cc (not-false (c .before .before .before .before .within .result) (c .before .before .before .if1 .left)) in
-    let l : link (edges m) x (edgeWord m x 1) ≡ true = cc (not-false (c .before .link .result) (c .if2 .left)) in
-    let f : test m x ≡ true = rw (e, l) in
-    (omega arith, each-next (test m) _ (c .before .before .before .before .before .before .before .loop .inv .1) f)
+    let if1 = c .before .before .before in
+    let turn = if1 .before .before .before in
+    let read = turn .before .before in
+    let m = read .before .before .before .args .m .now in
+    let w = rw (read .before .nodes .ensures, if1 .before .before .edge-word .ensures) at (sym (if1 .before .within .ensures) ∙ not-false _ (if1 .if1 .left)) in
+    let l = rw (read .edges .ensures, c .before .before .edge-word2 .ensures) at (sym (c .before .link .ensures) ∙ not-false _ (c .if2 .left)) in
+    each-goes (test m) (turn .loop-test .taken) (turn .before .loop .inv) (rw (w, l))
 
 returns-3 : tie.Need-returns-3 Inv-loop μ-loop
 unfolding q5 target
-returns-3 c =
-    let e : c .before .loop .x ≡ edges (c .before .before .before .before .before .args .m .now) = omega (arith, c .before .before .edges .ensures) in
-    sym (rw e at (c .before .loop .inv .1))
+returns-3 c = sym (each-ends _ (c .before .before .edges .ensures) (c .loop-test .left) (c .before .loop .inv))
 
 pub q5-spec : {M : Type 1} → statement M
 q5-spec =

@@ -1,3 +1,4 @@
+-- `automaton_word` meets its contract: the place is a sum of words below 2 ^ 16, so that it does not wrap, and it is the definition's.
 use borrow.Author.Needs.{needs}
 use Rattle.sheets.specs.Rules.{automatonWord}
 use Rattle.sheets.proofs.rules.automaton_word.Statement.{statement}
@@ -20,7 +21,7 @@ word-requires c κs = search needs
 
 returns : tie.Need-returns
 unfolding automatonWord
-returns c = cc
+returns c = rw (c .before .monus .ensures) at (c .word .ensures)
 
 pub automaton-word-spec : {M : Type 1} → statement M
 automaton-word-spec =

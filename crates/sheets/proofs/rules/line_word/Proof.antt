@@ -1,3 +1,4 @@
+-- `line_word` meets its contract: the place is a sum of words below 2 ^ 16, so that it does not wrap, and it is the definition's.
 use borrow.Author.Needs.{needs}
 use Rattle.sheets.specs.Rules.{lineWord, lent}
 use Rattle.sheets.proofs.rules.line_word.Statement.{statement}
@@ -56,7 +57,9 @@ word-requires c κs = search needs
 
 returns : tie.Need-returns
 unfolding lineWord lent
-returns c = cc
+returns c =
+    let read = c .before .before in
+    rw (read .before .before .automata .ensures, read .before .states .ensures, read .transitions .ensures, c .before .monus .ensures) at (c .word .ensures)
 
 pub line-word-spec : {M : Type 1} → statement M
 line-word-spec =

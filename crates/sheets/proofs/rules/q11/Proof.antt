@@ -1,13 +1,12 @@
 -- `q11` meets its contract. The invariant: the transitions passed are in range. The measure is how many are left.
-use mathlib.Core.Path.{_≡_, sym}
-use native.Mathlib.Omega.{arith}
-use Prim.Native.Nat.{ℕ, _+_, _-_, _≤_}
+use mathlib.Core.Path.{sym, _∙_}
+use Prim.Native.Nat.{ℕ, _-_}
 use mathlib.Core.List.{List}
-use mathlib.Core.Bool.{Bool, true, false, _&&_}
+use mathlib.Core.Bool.{Bool, _&&_}
 use borrow.Author.Tests.{not-true, not-false}
-use Rattle.sheets.specs.Words.{within, each, link}
+use Rattle.sheets.specs.Words.{within, link}
 use Rattle.sheets.specs.Rules.{q11, states, transitions, transitionWord, transitionTarget}
-use Rattle.sheets.proofs.EachLoops.{each-none, each-next, each-broken}
+use Rattle.sheets.proofs.EachLoops.{Tested, each-starts, each-goes, each-stops, each-ends}
 use borrow.Author.Needs.{needs}
 use Rattle.sheets.proofs.rules.q11.Statement.{statement}
 use Rattle.sheets.proofs.rules.q11.Tie as tie
@@ -16,7 +15,7 @@ abbrev test : List ℕ → ℕ → Bool
 test r y = within 1 (states r) (transitionWord r y 0) && link (transitions r) y (transitionWord r y 2)
 
 abbrev Inv-loop : tie.InvT-loop
-Inv-loop r m e y₀ y = (y ≤ e) × (each y (test r) ≡ true)
+Inv-loop r m e y₀ y = Tested (test r) e y
 
 abbrev μ-loop : tie.MeasureT-loop
 μ-loop r m e y₀ y = e - y
@@ -28,7 +27,7 @@ transitions-requires : tie.Need-transitions-requires Inv-loop μ-loop
 transitions-requires c κs = search needs
 
 loop-holds : tie.Need-loop-holds Inv-loop μ-loop
-loop-holds c = (omega arith, each-none _)
+loop-holds c = each-starts _ _
 
 add-y : tie.Need-add-y Inv-loop μ-loop
 add-y c = search needs
@@ -42,11 +41,11 @@ within-requires c κs = search needs
 returns : tie.Need-returns Inv-loop μ-loop
 unfolding q11 transitionTarget
 returns c =
-    let r = c .before .before .before .before .before .before .before .before .args .r .now in
-    let y = c .before .before .before .before .loop .y + 1 in
-    let w : within 1 (states r) (transitionWord r y 0) ≡ false = cc (not-true (c .before .within .result) (c .if1 .taken)) in
-    let f : test r y ≡ false = rw w in
-    sym (each-broken (test r) (transitions r) y (omega arith) (omega (arith, c .before .before .before .before .before .transitions .ensures)) f)
+    let turn = c .before .before .before in
+    let read = turn .before .before in
+    let r = read .before .before .before .args .r .now in
+    let w = rw (read .before .states .ensures, c .before .before .transition-word .ensures) at (sym (c .before .within .ensures) ∙ not-true _ (c .if1 .taken)) in
+    sym (each-stops (test r) (read .transitions .ensures) (turn .loop-test .taken) (rw w))
 
 transition-word-requires-2 : tie.Need-transition-word-requires-2 Inv-loop μ-loop
 transition-word-requires-2 c κs = search needs
@@ -57,30 +56,30 @@ link-requires c κs = search needs
 returns-2 : tie.Need-returns-2 Inv-loop μ-loop
 unfolding q11 transitionTarget
 returns-2 c =
-    let r = c .before .before .before .before .before .before .before .before .before .before .before .args .r .now in
-    let y = c .before .before .before .before .before .before .before .loop .y + 1 in
-    let w : within 1 (states r) (transitionWord r y 0) ≡ true = cc (not-false (c .before .before .before .before .within .result) (c .before .before .before .if1 .left)) in
-    let l : link (transitions r) y (transitionWord r y 2) ≡ false = cc (not-true (c .before .link .result) (c .if2 .taken)) in
-    let f : test r y ≡ false = rw (w, l) in
-    sym (each-broken (test r) (transitions r) y (omega arith) (omega (arith, c .before .before .before .before .before .before .before .before .transitions .ensures)) f)
+    let if1 = c .before .before .before in
+    let turn = if1 .before .before .before in
+    let read = turn .before .before in
+    let r = read .before .before .before .args .r .now in
+    let w = rw (read .before .states .ensures, if1 .before .before .transition-word .ensures) at (sym (if1 .before .within .ensures) ∙ not-false _ (if1 .if1 .left)) in
+    let l = rw (read .transitions .ensures, c .before .before .transition-word2 .ensures) at (sym (c .before .link .ensures) ∙ not-true _ (c .if2 .taken)) in
+    sym (each-stops (test r) (read .transitions .ensures) (turn .loop-test .taken) (rw (w, l)))
 
 loop-less : tie.Need-loop-less Inv-loop μ-loop
 loop-less c = search needs
 
 loop-again : tie.Need-loop-again Inv-loop μ-loop
 loop-again c =
-    let r = c .before .before .before .before .before .before .before .before .before .before .before .args .r .now in
-    let y = c .before .before .before .before .before .before .before .loop .y + 1 in
-    let w : within 1 (states r) (transitionWord r y 0) ≡ true = cc (not-false (c .before .before .before .before .within .result) (c .before .before .before .if1 .left)) in
-    let l : link (transitions r) y (transitionWord r y 2) ≡ true = cc (not-false (c .before .link .result) (c .if2 .left)) in
-    let f : test r y ≡ true = rw (w, l) in
-    (omega arith, each-next (test r) _ (c .before .before .before .before .before .before .before .loop .inv .1) f)
+    let if1 = c .before .before .before in
+    let turn = if1 .before .before .before in
+    let read = turn .before .before in
+    let r = read .before .before .before .args .r .now in
+    let w = rw (read .before .states .ensures, if1 .before .before .transition-word .ensures) at (sym (if1 .before .within .ensures) ∙ not-false _ (if1 .if1 .left)) in
+    let l = rw (read .transitions .ensures, c .before .before .transition-word2 .ensures) at (sym (c .before .link .ensures) ∙ not-false _ (c .if2 .left)) in
+    each-goes (test r) (turn .loop-test .taken) (turn .before .loop .inv) (rw (w, l))
 
 returns-3 : tie.Need-returns-3 Inv-loop μ-loop
 unfolding q11 transitionTarget
-returns-3 c =
-    let e : c .before .loop .y ≡ transitions (c .before .before .before .before .before .args .r .now) = omega (arith, c .before .before .transitions .ensures) in
-    sym (rw e at (c .before .loop .inv .1))
+returns-3 c = sym (each-ends _ (c .before .before .transitions .ensures) (c .loop-test .left) (c .before .loop .inv))
 
 pub q11-spec : {M : Type 1} → statement M
 q11-spec =

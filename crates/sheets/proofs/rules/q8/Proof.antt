@@ -54,7 +54,9 @@ add-result-4 c = search needs
 
 returns : tie.Need-returns
 unfolding q8 lent
-returns c = cc
+returns c =
+    let read = c .before in
+    rw (← (read .before .before .automata .ensures), ← (read .before .states .ensures), ← (read .transitions .ensures), ← (c .lines .ensures))
 
 pub q8-spec : {M : Type 1} → statement M
 q8-spec =

@@ -1,3 +1,4 @@
+-- `state_word` meets its contract: the place is a sum of words below 2 ^ 16, so that it does not wrap, and it is the definition's.
 use borrow.Author.Needs.{needs}
 use Rattle.sheets.specs.Rules.{stateWord}
 use Rattle.sheets.proofs.rules.state_word.Statement.{statement}
@@ -32,7 +33,7 @@ word-requires c κs = search needs
 
 returns : tie.Need-returns
 unfolding stateWord
-returns c = cc
+returns c = rw (c .before .before .automata .ensures, c .before .monus .ensures) at (c .word .ensures)
 
 pub state-word-spec : {M : Type 1} → statement M
 state-word-spec =

@@ -1,3 +1,4 @@
+-- `transition_word` meets its contract: the place is a sum of words below 2 ^ 16, so that it does not wrap, and it is the definition's.
 use borrow.Author.Needs.{needs}
 use Rattle.sheets.specs.Rules.{transitionWord}
 use Rattle.sheets.proofs.rules.transition_word.Statement.{statement}
@@ -44,7 +45,9 @@ word-requires c κs = search needs
 
 returns : tie.Need-returns
 unfolding transitionWord
-returns c = cc
+returns c =
+    let read = c .before .before in
+    rw (read .before .automata .ensures, read .states .ensures, c .before .monus .ensures) at (c .word .ensures)
 
 pub transition-word-spec : {M : Type 1} → statement M
 transition-word-spec =

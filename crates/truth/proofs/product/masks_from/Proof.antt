@@ -8,7 +8,8 @@ use lib.ListN.{length, getD}
 use lib.Dec.{eqb}
 use Rattle.sheets.specs.Words.{bit}
 use Rattle.sheets.specs.Rules.{transitionsOf, transitionTarget, mask, transitionWord}
-use Rattle.sheets.proofs.ChainTests.{passes}
+use Rattle.sheets.proofs.Records.{rest}
+use Rattle.sheets.proofs.ChainLoops.{passes}
 use Rattle.truth.specs.Product.{takes}
 use Rattle.truth.proofs.MaskLaws.{found-none, found-spent, found-ended, found-more}
 use Rattle.truth.proofs.product.masks_from.Statement.{statement}
@@ -21,7 +22,8 @@ test w q′ a m = bit m w && eqb a q′
 abbrev Inv-loop : tie.InvT-loop
 Inv-loop r q states t out₀ left₀ y₀ out left y =
     (length out ≡ 16)
-    × ((k w : ℕ) → k < t → takes r q w (getD states k 0) ≡ (bit (getD out k 0) w || passes (transitionWord r) 3 (test w (getD states k 0)) left y))
+    × ((k w : ℕ) → k < t
+    → takes r q w (getD states k 0) ≡ (bit (getD out k 0) w || passes (transitionWord r) (test w (getD states k 0)) (rest (transitionWord r) 3 left y)))
 
 abbrev μ-loop : tie.MeasureT-loop
 μ-loop r q states t out₀ left₀ y₀ out left y = left
