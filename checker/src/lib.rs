@@ -13,6 +13,7 @@
 //! - `program`: how the comparing program cuts its input, and the line it prints. `shown`: the text that
 //!   the labelling program prints, and a judge of what the path program prints.
 //! - `explanation`: a judge of what the explaining program prints.
+//! - `text`: sheets as text, and what the program `sheet` prints.
 //! - `refusal`: a refusing question and the sheet it was asked of.
 //! - `components`: strong components of a directed graph.
 //! - `worked`: the document's worked sheets and marked cases.
@@ -36,6 +37,7 @@ pub mod refusal;
 pub mod rng;
 pub mod rules;
 pub mod shown;
+pub mod text;
 pub mod trial;
 pub mod truth;
 pub mod worked;

@@ -108,7 +108,7 @@ fn arguments_that_are_numbers() {
         even_on_m3(),
         path(&even_on_m3(), Asked { line: 0, node: 1 }),
     );
-    for arguments in [["2", "1"], ["0", "00001"], ["00000", "01"]] {
+    for arguments in [["2", "1"], ["0", "000001"], ["00000", " 1 "]] {
         assert_eq!(printed("path", &arguments, &input), right, "{arguments:?}");
     }
     for arguments in [["0", "65535"], ["65535", "1"], ["1", "1"], ["0", "0"]] {
@@ -122,7 +122,7 @@ fn arguments_that_are_none() {
     let input = even_on_m3();
     let mut wrong: Vec<Vec<&str>> = vec![vec![], vec!["0"], vec!["0", "1", "1"]];
     for text in [
-        "", "x", "-1", "+1", "1 ", " 1", "1x", "65536", "99999", "000001", "1:", "1/",
+        "", "x", "-1", "+1", "1 2", "#1", "1x", "65536", "99999", "1:", "1/",
     ] {
         wrong.push(vec![text, "1"]);
         wrong.push(vec!["0", text]);

@@ -8,6 +8,7 @@
 //! - `pairs`: a machine and a rule, and the spaces that labelling and path write to.
 //! - `machine_pairs`: two machines to compare, and the space for the rule.
 //! - `inputs`: bytes for the programs.
+//! - `texts`: texts of decimal words for the program `sheet`.
 
 pub mod chains;
 pub mod damage;
@@ -17,6 +18,7 @@ pub mod machine_pairs;
 pub mod machines;
 pub mod pairs;
 pub mod rules;
+pub mod texts;
 
 use crate::rng::Rng;
 

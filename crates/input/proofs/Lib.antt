@@ -1,6 +1,7 @@
 -- The laws of input.
 pub mod WordLists
+pub mod ByteLists
 pub mod Cuts
-pub mod HeldLines
-pub mod ArgumentTexts
+pub mod RefusedLine
 pub mod WorkedInput
+pub mod Turning

@@ -40,15 +40,21 @@ words-next bytes before i w h room e =
     let l = words-length bytes in
     rw (add-one, e, ← words-at bytes i) (simp zero-add at (paste-suc before 0 (wordsOf bytes) i 0 (omega arith) (omega arith)))
 
+-- where there is space for all the words, the head of the list is all of them
+pub words-all : (bytes before after : List ℕ) (n : ℕ) → length bytes / 2 ≤ length before → n ≡ min (length bytes / 2) (length before)
+    → after ≡ take n (wordsOf bytes) ++ drop n before → take n after ≡ wordsOf bytes
+words-all bytes before after n room counted e =
+    let count = words-length bytes in
+    let all : length (wordsOf bytes) ≡ n = omega arith in
+    rw (e, take-all n (wordsOf bytes) (omega arith)) (take-at (wordsOf bytes) (drop n before) n all)
+
 readable-most : (most count : ℕ) → readable most count ≡ true → count ≤ most
 unfolding readable
 readable-most most count ok = leb→le count most (and-left (leb count most) (eqb (count % 2) 0) (subst⁻¹ T ok tt))
 
--- a readable count of bytes makes no more words than there is space for, and the head of the list is then all of them
+-- a readable count of bytes makes no more words than there is space for
 pub words-whole : (most : ℕ) (bytes before after : List ℕ) (n : ℕ) → readable most (length bytes) ≡ true → most ≤ 2 * length before
     → n ≡ min (length bytes / 2) (length before) → after ≡ take n (wordsOf bytes) ++ drop n before → take n after ≡ wordsOf bytes
 words-whole most bytes before after n ok room counted e =
-    let count = words-length bytes in
     let few = readable-most most (length bytes) ok in
-    let all : length (wordsOf bytes) ≡ n = omega arith in
-    rw (e, take-all n (wordsOf bytes) (omega arith)) (take-at (wordsOf bytes) (drop n before) n all)
+    words-all bytes before after n (omega arith) counted e

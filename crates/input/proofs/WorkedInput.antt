@@ -13,16 +13,12 @@ use Rattle.sheets.specs.Words.{word, within}
 use Rattle.sheets.specs.Machine.{nodes, signals, edges, q1, q2}
 use Rattle.sheets.specs.Worked.{M1, M2}
 use Rattle.sheets.proofs.Search.{le-or-gt}
-use Rattle.input.specs.Bytes.{wordOf, wordsOf}
+use Rattle.input.specs.Bytes.{wordOf, wordsOf, bytesOf}
 use Rattle.input.specs.Cut.{headerEnd, firstEnd, firstSheet, secondSheet}
-use Rattle.input.specs.Lines.{digits, decimal, lineBytes}
+use Rattle.text.specs.Decimals.{digits, decimal}
+use Rattle.input.specs.Lines.{lineBytes}
 use Rattle.input.specs.declared.line.Said.the-variants.{Refused}
 use Rattle.input.proofs.Cuts.{end-by-header}
-
--- words as bytes, low byte first
-unfoldable pub bytesOf : List ℕ → List ℕ
-bytesOf [] = []
-bytesOf (w ∷ ws) = (w % 256) ∷ (w / 256) ∷ bytesOf ws
 
 pub read-back : (words : List ℕ) → wordsOf (bytesOf words) ≡ words
 unfolding bytesOf wordsOf wordOf

@@ -1,6 +1,6 @@
 -- The bytes of standard input. Document 01: "The comparing program reads two machine sheets from standard input, low byte first,
 -- at most 20,000 bytes". Each program says its own number.
-use Prim.Native.Nat.{ℕ, _+_, _*_, _%_}
+use Prim.Native.Nat.{ℕ, _+_, _*_, _/_, _%_}
 use mathlib.Core.List.{List, [], _∷_}
 use mathlib.Core.Bool.{Bool, _&&_}
 use lib.Dec.{leb, eqb}
@@ -19,3 +19,8 @@ unfolding wordOf
 wordsOf [] = []
 wordsOf (low ∷ []) = []
 wordsOf (low ∷ high ∷ bytes) = wordOf low high ∷ wordsOf bytes
+
+-- the bytes of words, low byte first
+unfoldable pub bytesOf : List ℕ → List ℕ
+bytesOf [] = []
+bytesOf (w ∷ ws) = (w % 256) ∷ (w / 256) ∷ bytesOf ws

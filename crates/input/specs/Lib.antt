@@ -2,4 +2,4 @@
 pub mod Bytes
 pub mod Cut
 pub mod Lines
-pub mod Arguments
+pub mod Turns

@@ -1,9 +1,9 @@
-// The bytes of standard input: how many are taken, and the words that they make.
+// The bytes of standard input: how many are taken, the words that they make, and the bytes of words.
 ghost use mathlib.Core.Path.{_≡_};
-ghost use Prim.Native.Nat.{_+_, _*_, _/_, min};
+ghost use Prim.Native.Nat.{_+_, _*_, _/_, _%_, _<_, min};
 ghost use mathlib.Core.List.{_++_};
-ghost use lib.ListN.{length, take, drop};
-ghost use Rattle.input.specs.Bytes.{wordOf, wordsOf};
+ghost use lib.ListN.{length, take, drop, set};
+ghost use Rattle.input.specs.Bytes.{wordOf, wordsOf, bytesOf};
 ghost use Rattle.input.specs.Bytes as Bytes;
 
 // An even number of at most `most` bytes is taken; any other is answered by the refusal 0 0.
@@ -33,6 +33,30 @@ pub fn words_of(bytes: &[u8], words: &mut [u16]) -> usize
         i += 1;
     }
     n
+}
+
+// Puts the bytes of the words at the head of `bytes`, those of as many words as there is space for, and answers how many bytes there are;
+// the bytes past them stay as they are.
+pub fn bytes_of(words: &[u16], bytes: &mut [u8]) -> usize
+    ensures counted { λ r. ⌜ r ≡ 2 * min (length (now (words .entry))) (length (now (bytes .entry)) / 2) ⌝ }
+    ensures written { λ r. ⌜ now (bytes .exit) ≡ take r (bytesOf (now (words .entry))) ++ drop r (now (bytes .entry)) ⌝ }
+{
+    let n = least(words.len(), bytes.len() / 2);
+    let mut i = 0;
+    while i < n {
+        put_word(bytes, 2 * i, words[i]);
+        i += 1;
+    }
+    2 * n
+}
+
+// Puts the two bytes of a word at a place.
+fn put_word(bytes: &mut [u8], at: usize, word: u16)
+    requires { ⌜ at + 1 < length (now bytes) ⌝ }
+    ensures { λ _. ⌜ now (bytes .exit) ≡ set (set (now (bytes .entry)) at (word % 256)) (at + 1) (word / 256) ⌝ }
+{
+    bytes[at] = (word % 256) as u8;
+    bytes[at + 1] = (word / 256) as u8;
 }
 
 fn least(a: usize, b: usize) -> usize

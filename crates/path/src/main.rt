@@ -3,17 +3,34 @@
 mod answer; // answer.rt: what is answered to the input
 mod print; // print.rt: what is printed
 
-use input::argument;
-use input::argument::Argument;
 use libc::STDERR_FILENO;
 use libc::STDIN_FILENO;
+use text::read;
+use text::read::Reading;
 use truth::path::Shown;
 
-// The number that an argument gives. One that is missing or longer than five bytes is read as an empty text.
+// What an argument says: a number, or nothing that is taken.
+enum Argument {
+    Number { value: u16 },
+    Refused,
+}
+
+// The number that an argument gives: it is read as a text of one word. One that is missing or longer than 16 bytes is read as an empty text.
 fn number(i: usize) -> Argument {
-    let mut text = [0u8; 5];
-    let n = os::arg(i, &mut text);
-    argument::number_of(&text[..n])
+    let mut bytes = [0u8; 16];
+    let n = os::arg(i, &mut bytes);
+    let mut word = [0u16; 1];
+    let reading = read::words_of_text(&bytes[..n], &mut word);
+    match reading {
+        Reading::Words { count } => {
+            if count == 1 {
+                Argument::Number { value: word[0] }
+            } else {
+                Argument::Refused
+            }
+        }
+        Reading::Fault { kind: _, at: _ } => Argument::Refused,
+    }
 }
 
 fn usage() {

@@ -1,5 +1,5 @@
 -- `main` is safe and ends: the line's text is a part of its array.
-use Rattle.input.proofs.HeldLines.{line-part}
+use Rattle.text.proofs.HeldLines.{line-part}
 use borrow.Author.Needs.{needs}
 use Rattle.compare.proofs.main.Statement.{statement}
 use Rattle.compare.proofs.main.Tie as tie

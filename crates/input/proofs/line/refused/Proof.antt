@@ -2,7 +2,7 @@
 use mathlib.Core.Path.{refl}
 use native.Mathlib.Omega.{arith}
 use Rattle.input.specs.Lines.{lineBytes}
-use Rattle.input.proofs.HeldLines.{refused-line}
+use Rattle.input.proofs.RefusedLine.{refused-line}
 use borrow.Author.Needs.{needs}
 use Rattle.input.proofs.line.refused.Statement.{statement}
 use Rattle.input.proofs.line.refused.Tie as tie

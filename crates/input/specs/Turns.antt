@@ -1,0 +1,62 @@
+-- A sheet as text and as bytes. A sheet has at most 14,503 words: the largest machine sheet, 4,483, with the largest rule sheet, 10,020.
+use mathlib.Core.Path.{_≡_}
+use Prim.Native.Nat.{ℕ, _%_}
+use mathlib.Core.List.{List, [], _∷_, _++_}
+use mathlib.Core.Bool.{cond}
+use lib.ListN.{length, drop}
+use lib.Dec.{ltb, eqb}
+use Rattle.text.specs.Texts.{Read, words, fault, readingOf}
+use Rattle.text.specs.Layout.{writtenOf, textLeft}
+use Rattle.text.specs.declared.write.Written.{Written}
+use Rattle.text.specs.declared.write.Written.the-variants as Written
+use Rattle.input.specs.Bytes.{wordsOf, bytesOf}
+use Rattle.input.specs.declared.turn.Form.{Form}
+use Rattle.input.specs.declared.turn.Form.the-variants.{Bytes, Text, Neither}
+use Rattle.input.specs.declared.turn.Turned.{Turned}
+use Rattle.input.specs.declared.turn.Turned.the-variants.{Done, Fault, Odd, Long, NoRoom}
+
+-- `bytes` and `text`, in ASCII
+abbrev pub bytesWord : List ℕ
+bytesWord = 98 ∷ 121 ∷ 116 ∷ 101 ∷ 115 ∷ []
+
+abbrev pub textWord : List ℕ
+textWord = 116 ∷ 101 ∷ 120 ∷ 116 ∷ []
+
+-- the form that is asked for: one argument, `bytes` or `text`
+pub record Asked (count : ℕ) (word : List ℕ) (form : Form) : Type 0 where
+  pub bytes : count ≡ 2 → word ≡ bytesWord → form ≡ Bytes
+  pub text : count ≡ 2 → word ≡ textWord → form ≡ Text
+  pub neither : (count ≡ 2 → word ≡ bytesWord → ⊥) → (count ≡ 2 → word ≡ textWord → ⊥) → form ≡ Neither
+
+-- the answer, and the lent bytes after it
+pub record Turn : Type 0 where
+  pub answer : Turned
+  pub left : List ℕ
+
+-- a refusal leaves the lent bytes as they were
+unfoldable pub refused : Turned → List ℕ → Turn
+refused answer lent = record { answer = answer; left = lent }
+
+-- bytes at the head of the lent ones
+unfoldable pub done : List ℕ → List ℕ → Turn
+done bytes lent = record { answer = Done (length bytes); left = bytes ++ drop (length bytes) lent }
+
+unfoldable pub ofRead : Read → List ℕ → Turn
+ofRead (words ws) lent = done (bytesOf ws) lent
+ofRead (fault kind at) lent = refused (Fault kind at) lent
+
+-- a text of at most 200,000 bytes as bytes, with space for a whole sheet
+unfoldable pub toBytes : List ℕ → List ℕ → Turn
+toBytes text lent =
+    cond (ltb 200000 (length text)) (refused Long lent) (cond (ltb (length lent) 29006) (refused NoRoom lent) (ofRead (readingOf 14503 text) lent))
+
+unfoldable pub ofWritten : Written → Turned
+ofWritten (Written.Text count) = Done count
+ofWritten Written.NoRoom = NoRoom
+
+-- an even number of bytes, at most a whole sheet, as text
+unfoldable pub toText : List ℕ → List ℕ → Turn
+toText sheet lent =
+    cond (ltb 29006 (length sheet)) (refused Long lent)
+    (cond (eqb (length sheet % 2) 1) (refused Odd lent)
+    (record { answer = ofWritten (writtenOf (wordsOf sheet) lent); left = textLeft (wordsOf sheet) lent }))

@@ -1,0 +1,85 @@
+// A sheet as text and as bytes: one form turned into the other, and which of the two a program is asked for.
+ghost use mathlib.Core.Path.{_≡_};
+ghost use Rattle.input.specs.Turns.{Asked, toBytes, toText};
+use crate::bytes;
+use text::read;
+use text::read::Kind;
+use text::read::Place;
+use text::read::Reading;
+use text::write;
+use text::write::Written;
+
+// The form that is asked for.
+pub enum Form {
+    Bytes,
+    Text,
+    Neither,
+}
+
+// What came of it: so many bytes are written, or nothing is: the text's first fault, an odd number of bytes, more bytes than are taken,
+// or too little space.
+pub enum Turned {
+    Done { count: usize },
+    Fault { kind: Kind, at: Place },
+    Odd,
+    Long,
+    NoRoom,
+}
+
+// The form that a program's arguments ask for: the number of its words, its own name among them, and the one after that.
+pub fn form_of(count: usize, word: &[u8]) -> Form
+    ensures { λ r. ⌜ Asked count (now (word .entry)) r ⌝ }
+{
+    if count != 2 {
+        return Form::Neither;
+    }
+    if check::same(word, b"bytes") {
+        return Form::Bytes;
+    }
+    if check::same(word, b"text") {
+        return Form::Text;
+    }
+    Form::Neither
+}
+
+// Puts the bytes of the sheet that a text says at the head of `sheet`.
+pub fn bytes_of_text(text: &[u8], sheet: &mut [u8]) -> Turned
+    ensures answer { λ r. ⌜ r ≡ toBytes (now (text .entry)) (now (sheet .entry)) .answer ⌝ }
+    ensures left { λ r. ⌜ now (sheet .exit) ≡ toBytes (now (text .entry)) (now (sheet .entry)) .left ⌝ }
+{
+    if 200000 < text.len() {
+        return Turned::Long;
+    }
+    if sheet.len() < 29006 {
+        return Turned::NoRoom;
+    }
+    let mut words = [0u16; 14503];
+    let answer = read::words_of_text(text, &mut words);
+    match answer {
+        Reading::Words { count } => {
+            let written = bytes::bytes_of(&words[..count], sheet);
+            Turned::Done { count: written }
+        }
+        Reading::Fault { kind, at } => Turned::Fault { kind: kind, at: at },
+    }
+}
+
+// Puts the text of a sheet's bytes at the head of `text`.
+pub fn text_of_bytes(sheet: &[u8], text: &mut [u8]) -> Turned
+    ensures answer { λ r. ⌜ r ≡ toText (now (sheet .entry)) (now (text .entry)) .answer ⌝ }
+    ensures left { λ r. ⌜ now (text .exit) ≡ toText (now (sheet .entry)) (now (text .entry)) .left ⌝ }
+{
+    if 29006 < sheet.len() {
+        return Turned::Long;
+    }
+    if sheet.len() % 2 == 1 {
+        return Turned::Odd;
+    }
+    let mut words = [0u16; 14503];
+    let count = bytes::words_of(sheet, &mut words);
+    let answer = write::text_of_words(&words[..count], text);
+    match answer {
+        Written::Text { count: written } => Turned::Done { count: written },
+        Written::NoRoom => Turned::NoRoom,
+    }
+}
