@@ -16,8 +16,9 @@ const SEED: u64 = 0x6578_706c_6169_6e01;
 const CASES: u64 = 3_000;
 
 fn explain(input: &[u8]) -> String {
-    let printed = programs::run_in_pieces("explain", input, 65_536);
-    String::from_utf8(printed).expect("the text is in ASCII")
+    let output = programs::run("explain", &[], input);
+    assert!(output.stderr.is_empty(), "{output:?}");
+    String::from_utf8(output.stdout).expect("the text is in ASCII")
 }
 
 #[test]

@@ -13,7 +13,7 @@ const CASES: u64 = 3_000;
 const SLOW_CASES: u64 = 40;
 
 fn run_in_pieces(input: &[u8], size: usize) -> Vec<u8> {
-    programs::run_in_pieces("compare", input, size)
+    programs::run_in_pieces("compare", &[], input, size).stdout
 }
 
 #[test]

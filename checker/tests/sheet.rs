@@ -1,15 +1,16 @@
 //! The program `sheet`, run both ways over the examples and over random texts and sheets, and
 //! `compare.sh` on texts.
 
+mod programs;
+
 use checker::coverage::Coverage;
 use checker::generate::texts;
 use checker::rng::Rng;
 use checker::text::{to_bytes, to_text, Printed, TEXT, WORDS};
 use checker::worked;
 use std::fs;
-use std::io::{Read, Write};
 use std::path::{Path, PathBuf};
-use std::process::{Command, Output, Stdio};
+use std::process::{Command, Output};
 
 const SEED: u64 = 0x7368_6565_7401;
 const CASES: u64 = 3_000;
@@ -23,27 +24,13 @@ fn example(name: &str) -> Vec<u8> {
     fs::read(&file).unwrap_or_else(|error| panic!("{}: {error}", file.display()))
 }
 
-/// Runs the program on its arguments. It stops reading past its limit, so that a write may find
-/// the pipe closed.
 fn run(arguments: &[&str], input: &[u8]) -> Printed {
-    let mut child = Command::new(root().join("target/bin/sheet"))
-        .args(arguments)
-        .stdin(Stdio::piped())
-        .stdout(Stdio::piped())
-        .stderr(Stdio::piped())
-        .spawn()
-        .expect("target/bin/sheet is there once `rt check` has run");
-    let mut pipe = child.stdin.take().expect("the input is a pipe");
-    let _ = pipe.write_all(input);
-    drop(pipe);
-    let mut out = Vec::new();
-    let mut error = String::new();
-    let printed = child.stdout.as_mut().expect("the output is a pipe");
-    printed.read_to_end(&mut out).expect("it can be read");
-    let said = child.stderr.as_mut().expect("the errors are a pipe");
-    said.read_to_string(&mut error).expect("they can be read");
-    child.wait().expect("the program ends");
-    Printed { out, error }
+    let output = programs::run("sheet", arguments, input);
+    let error = String::from_utf8(output.stderr).expect("the errors are in ASCII");
+    Printed {
+        out: output.stdout,
+        error,
+    }
 }
 
 /// Both sides in short, since a sheet has many bytes.

@@ -1,41 +1,20 @@
 //! The labelling program and the path program, run on machines and rules, accepted and damaged: every
 //! text beside the checker's own labelling, and every printed path held to all that is asked of it.
 
+mod programs;
+
 use checker::path::Asked;
 use checker::program::bytes;
 use checker::shown::{self, BYTES};
 use checker::trial;
 use checker::worked;
 use std::io::Write;
-use std::path::PathBuf;
-use std::process::{Command, Output, Stdio};
 
 const SEED: u64 = 0x7368_6f77_6e01;
 const CASES: u64 = 2_000;
 
-/// Runs a program on an input. It stops reading one byte past the longest input, so that a write may find the pipe closed.
-fn run(program: &str, arguments: &[&str], input: &[u8]) -> Output {
-    let folder = PathBuf::from(env!("CARGO_MANIFEST_DIR")).join("../target/bin");
-    let mut child = Command::new(folder.join(program))
-        .args(arguments)
-        .stdin(Stdio::piped())
-        .stdout(Stdio::piped())
-        .stderr(Stdio::piped())
-        .spawn()
-        .expect("the programs are in target/bin once `rt check` has run");
-    let mut pipe = child.stdin.take().expect("the input is a pipe");
-    let input = input.to_vec();
-    let writer = std::thread::spawn(move || pipe.write_all(&input));
-    let output = child.wait_with_output().expect("the program ends");
-    let written = writer.join().expect("the input is written");
-    assert!(
-        written.is_ok() || output.stdout.starts_with(b"refused: ") || !output.stderr.is_empty()
-    );
-    output
-}
-
 fn printed(program: &str, arguments: &[&str], input: &[u8]) -> String {
-    let output = run(program, arguments, input);
+    let output = programs::run(program, arguments, input);
     assert!(output.stderr.is_empty(), "{output:?}");
     String::from_utf8(output.stdout).expect("ASCII")
 }
@@ -128,7 +107,7 @@ fn arguments_that_are_none() {
         wrong.push(vec!["0", text]);
     }
     for arguments in wrong {
-        let output = run("path", &arguments, &input);
+        let output = programs::run("path", &arguments, &input);
         assert!(output.stdout.is_empty(), "{arguments:?}: {output:?}");
         assert!(
             output.stderr.starts_with(b"usage: path LINE NODE"),
