@@ -141,19 +141,35 @@ fn compare(first: &Path, second: &Path) -> Output {
 fn texts_are_compared() {
     let text = |name: &str| root().join("examples").join(name);
     for (first, second, answer) in [
-        ("M1.txt", "M2.txt", "equal\n"),
-        ("M1.txt", "M3.txt", "unequal\n"),
-        ("M5.txt", "M6.txt", "unequal\n"),
-        ("M1.txt", "M5.txt", "refused 20 0\n"),
+        ("M1.txt", "M2.txt", "equal\nThe two machines are equal: "),
+        (
+            "M1.txt",
+            "M3.txt",
+            "unequal\nThe two machines are unequal. ",
+        ),
+        (
+            "M5.txt",
+            "M6.txt",
+            "unequal\nThe two machines are unequal. ",
+        ),
+        ("M1.txt", "M5.txt", "refused 20 0\nrefused: question 20: "),
     ] {
         let printed = compare(&text(first), &text(second));
-        assert_eq!(String::from_utf8_lossy(&printed.stdout), answer);
+        let told = String::from_utf8_lossy(&printed.stdout);
+        assert!(told.starts_with(answer), "{first} {second}: {told}");
         assert!(printed.status.success(), "{first} {second}");
     }
     let folder = PathBuf::from(env!("CARGO_TARGET_TMPDIR"));
     let sheet = folder.join("M2.sheet");
     fs::write(&sheet, checker::program::bytes(&worked::m2())).expect("it can be written");
-    assert_eq!(compare(&text("M1.txt"), &sheet).stdout, b"equal\n");
+    assert!(compare(&text("M1.txt"), &sheet)
+        .stdout
+        .starts_with(b"equal\n"));
+    let short = folder.join("short.sheet");
+    fs::write(&short, &checker::program::bytes(&worked::m2())[..24]).expect("it can be written");
+    let uncut = compare(&short, &text("M1.txt"));
+    assert_eq!(uncut.status.code(), Some(1));
+    assert!(uncut.stdout.is_empty() && uncut.stderr.ends_with(b"gives 13 words, and it has 12\n"));
     let faulty = folder.join("faulty.txt");
     fs::write(&faulty, "1 1 1\n1 1 one\n1 0\n").expect("it can be written");
     let refused = compare(&text("M1.txt"), &faulty);
