@@ -30,6 +30,16 @@ uint16_t toqshenay_path(const uint16_t *machine, size_t machine_length, const ui
                         uint16_t line, uint16_t node, uint16_t *nodes, size_t nodes_length, uint16_t *states, size_t states_length,
                         uint16_t *sheet, uint16_t *length, uint16_t *back);
 
+/* A place of a path: a node, and a state by its record number. */
+struct toqshenay_pair {
+    uint16_t node, state;
+};
+
+/* The same with one list, of pairs. */
+uint16_t toqshenay_path_pairs(const uint16_t *machine, size_t machine_length, const uint16_t *rules, size_t rules_length,
+                              uint16_t line, uint16_t node, struct toqshenay_pair *list, size_t list_length,
+                              uint16_t *sheet, uint16_t *length, uint16_t *back);
+
 /* Comparison: *unequal is 0 where both machines keep the same rules, and the space is unchanged; it is 1 where they do not, and a rule
  * sheet that exactly one of them keeps stands at the head of the space. */
 uint16_t toqshenay_compare(const uint16_t *first, size_t first_length, const uint16_t *second, size_t second_length,

@@ -4,6 +4,7 @@ ghost use Rattle.sheets.specs.Machine.{machineRefusal};
 ghost use Rattle.sheets.specs.Rules.{lent, ruleRefusal};
 ghost use Rattle.truth.specs.Answers.{LabelAnswer};
 ghost use Rattle.truth.specs.PathAnswers.{PathAnswer};
+ghost use Rattle.truth.specs.PathPairs.{PairsAnswer};
 ghost use Rattle.exports.specs.Numbers.{Told, labelNumbers, pathNumbers, compareNumbers};
 ghost use Rattle.comparison.specs.Answers.{CompareAnswer};
 use comparison::compare;
@@ -12,6 +13,8 @@ use sheets::checks;
 use sheets::checks::Check;
 use truth::labelling;
 use truth::labelling::Labelled;
+use truth::pairs;
+use truth::pairs::Pair;
 use truth::path;
 use truth::path::Shown;
 
@@ -76,23 +79,11 @@ pub extern "C" fn toqshenay_label(
     }
 }
 
-// Shows a path for a path line at a node: the nodes and the states of its pairs go to two lent lists. The question that refuses, and
-// its sheet, or 0; then the number of pairs, 0 where there is no path, and the place that the last pair goes back to.
-#[no_mangle]
-pub extern "C" fn toqshenay_path(
-    m: &[u16],
-    r: &[u16],
-    line: u16,
-    node: u16,
-    nodes: &mut [u16],
-    states: &mut [u16],
-    sheet: &mut u16,
-    length: &mut u16,
-    back: &mut u16,
-) -> u16
-    ensures { λ q. ⌜ Told (PathAnswer (now (m .entry)) (now (r .entry)) line node (now (nodes .entry)) (now (states .entry)) (now (nodes .exit)) (now (states .exit))) pathNumbers (record { question = q; sheet = now (sheet .exit); size = now (length .exit); back = now (back .exit) }) ⌝ }
+// The numbers of a path's answer: the question that refuses, and its sheet, or 0; then the number of pairs, 0 where there is no path,
+// and the place that the last pair goes back to.
+fn tell_path(answer: Shown, sheet: &mut u16, length: &mut u16, back: &mut u16) -> u16
+    ensures { λ q. ⌜ record { question = q; sheet = now (sheet .exit); size = now (length .exit); back = now (back .exit) } ≡ pathNumbers answer ⌝ }
 {
-    let answer = path::path(m, r, line, node, nodes, states);
     match answer {
         Shown::Refused { question, sheet: s } => {
             *sheet = s;
@@ -113,6 +104,43 @@ pub extern "C" fn toqshenay_path(
             0
         }
     }
+}
+
+// Shows a path for a path line at a node: the nodes and the states of its pairs go to two lent lists. The numbers are `tell_path`'s.
+#[no_mangle]
+pub extern "C" fn toqshenay_path(
+    m: &[u16],
+    r: &[u16],
+    line: u16,
+    node: u16,
+    nodes: &mut [u16],
+    states: &mut [u16],
+    sheet: &mut u16,
+    length: &mut u16,
+    back: &mut u16,
+) -> u16
+    ensures { λ q. ⌜ Told (PathAnswer (now (m .entry)) (now (r .entry)) line node (now (nodes .entry)) (now (states .entry)) (now (nodes .exit)) (now (states .exit))) pathNumbers (record { question = q; sheet = now (sheet .exit); size = now (length .exit); back = now (back .exit) }) ⌝ }
+{
+    let answer = path::path_lists(m, r, line, node, nodes, states);
+    tell_path(answer, sheet, length, back)
+}
+
+// The same with one lent list, of pairs.
+#[no_mangle]
+pub extern "C" fn toqshenay_path_pairs(
+    m: &[u16],
+    r: &[u16],
+    line: u16,
+    node: u16,
+    list: &mut [Pair],
+    sheet: &mut u16,
+    length: &mut u16,
+    back: &mut u16,
+) -> u16
+    ensures { λ q. ⌜ Told (PairsAnswer (now (m .entry)) (now (r .entry)) line node (now (list .entry)) (now (list .exit))) pathNumbers (record { question = q; sheet = now (sheet .exit); size = now (length .exit); back = now (back .exit) }) ⌝ }
+{
+    let answer = pairs::path(m, r, line, node, list);
+    tell_path(answer, sheet, length, back)
 }
 
 // Compares two machine sheets; where they are unequal, the rule that tells them apart goes to the lent space. The question that

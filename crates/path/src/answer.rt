@@ -17,7 +17,7 @@ fn path_of_words(
     ensures { λ a. ⌜ PathAnswer (firstSheet (now (words .entry))) (secondSheet (now (words .entry))) line node (now (nodes .entry)) (now (states .entry)) (now (nodes .exit)) (now (states .exit)) a ⌝ }
 {
     let end = cut::first_end(words);
-    truth::path::path(&words[..end], &words[end..], line, node, nodes, states)
+    truth::path::path_lists(&words[..end], &words[end..], line, node, nodes, states)
 }
 
 // The answer to the bytes of standard input; the nodes and the states of the path's pairs go to the two lent lists.

@@ -11,3 +11,4 @@ pub mod breaks; // breaks.rt: the start node where a machine breaks a rule
 pub mod walk; // walk.rt: a walk through the pairs that shows a path
 pub mod header; // header.rt: what the crate above asks of a machine sheet
 pub mod path; // path.rt: the path call
+pub mod pairs; // pairs.rt: the path call over a list of pairs

@@ -266,8 +266,15 @@ fn least(a: usize, b: usize) -> usize
     if a < b { a } else { b }
 }
 
-// Shows a path for the line at the node: nodes and states of the pairs go to two lent lists. Line 0 means the last line.
-pub fn path(
+// What is made for a list with space for so many pairs: none is longer than 2048, so that more room changes no answer.
+pub fn make_within(m: &[u16], r: &[u16], line: u16, node: u16, space: usize) -> Made
+    ensures { λ a. ⌜ MadeFor (now (m .entry)) (now (r .entry)) line node (min space 2048) (a .nodes) (a .states) (a .answer) ⌝ }
+{
+    make(m, r, line, node, least(space, 2048))
+}
+
+// The path call for code that has no slice of structs: nodes and states of the pairs go to two lent lists. Line 0 means the last line.
+pub fn path_lists(
     m: &[u16],
     r: &[u16],
     line: u16,
@@ -277,9 +284,7 @@ pub fn path(
 ) -> Shown
     ensures { λ a. ⌜ PathAnswer (now (m .entry)) (now (r .entry)) line node (now (nodes .entry)) (now (states .entry)) (now (nodes .exit)) (now (states .exit)) a ⌝ }
 {
-    // No list is longer than that: more room changes no answer.
-    let room = least(least(nodes.len(), states.len()), 2048);
-    let made = make(m, r, line, node, room);
+    let made = make_within(m, r, line, node, least(nodes.len(), states.len()));
     let answer = made.answer;
     let count = length_of(answer);
     write_nodes(nodes, &made.nodes, count);
