@@ -20,7 +20,12 @@ module _ (M : List ℕ) (small : nodes M ≤ 128) (x : ℕ → Bool) (starts : (
   unfolding HasStart
   has-start mem c r e = (
     λ t. ⊎-elim
-        (λ f. (f .0, tested-start M small (f .0) (f .1) (subst T (starts (f .0)) (and-right (mem c (f .0)) (x (f .0)) (f .3))), and-left (mem c (f .0)) (x (f .0)) (f .3)))
+        (λ f. (
+          f .0,
+          tested-start M small (f .0) (f .1)
+              (subst T (starts (f .0)) (and-right (mem c (f .0)) (x (f .0)) (f .3))),
+          and-left (mem c (f .0)) (x (f .0)) (f .3),
+        ))
         (λ none. absurd (T-not (each 128 (λ s. not (mem c s && x s))) (subst T e t) (each-in 128 (λ s. not (mem c s && x s)) none)))
         (find 128 (λ s. mem c s && x s)),
     λ h. rw e (not-T (each 128 (λ s. not (mem c s && x s))) (λ all.

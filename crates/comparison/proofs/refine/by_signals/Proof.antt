@@ -42,7 +42,8 @@ loop-again c = (
 returns : tie.Need-returns Inv-loop μ-loop
 returns c =
     let at = c .before in
-    let e : at .loop .i ≡ signals (at .before .before .before .before .args .m1 .now) = omega (arith, at .before .signals .ensures, c .loop-test .left, at .loop .inv .0) in
+    let e : at .loop .i ≡ signals (at .before .before .before .before .args .m1 .now) =
+    omega (arith, at .before .signals .ensures, c .loop-test .left, at .loop .inv .0) in
     signals-all _ _ _ _ e (at .loop .inv .1)
 
 pub by-signals-spec : {M : Type 1} → statement M

@@ -43,7 +43,8 @@ returns : tie.Need-returns Inv-loop μ-loop
 returns c =
     let a = c .before .before .before .before .before .before .before .before .args in
     let at = c .before .before .before .before .loop in
-    let e = ended (counted (at .n)) (stateWord (a .r .now)) 3 _ (at .left) (at .q) (at .inv .1) (c .before .before .state .ensures) (c .enum-told .given .1) in
+    let e = ended (counted (at .n)) (stateWord (a .r .now)) 3 _ (at .left) (at .q) (at .inv .1)
+    (c .before .before .state .ensures) (c .enum-told .given .1) in
     omega (arith, e)
 
 add-n : tie.Need-add-n Inv-loop μ-loop
@@ -60,7 +61,8 @@ loop-again c =
     let s = c .before .before .before in
     let a = s .before .before .before .before .before .before .args in
     let at = s .before .before .loop in
-    let e = goes (counted (at .n)) (stateWord (a .r .now)) 3 _ (at .left) (at .q) (at .inv .1) (s .before .loop-test .taken) (s .state .ensures) (c .before .step .given .1) in
+    let e = goes (counted (at .n)) (stateWord (a .r .now)) 3 _ (at .left) (at .q) (at .inv .1)
+    (s .before .loop-test .taken) (s .state .ensures) (c .before .step .given .1) in
     (omega arith, omega (arith, e))
 
 returns-2 : tie.Need-returns-2 Inv-loop μ-loop

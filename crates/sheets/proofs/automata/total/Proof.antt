@@ -31,7 +31,8 @@ returns c =
     let a = c .before .before .before .before .before .args in
     let w = c .before .before .before .loop .w in
     let h = served-ill (a .r .now) (transitionsOf (a .r .now) (a .q)) w _ (c .before .takers .ensures) (c .if1 .taken) in
-    sym (each-stops (served (a .r .now) (transitionsOf (a .r .now) (a .q))) (one-shifted 16 (a .v) (omega arith)) (c .before .before .loop-test .taken) h)
+    sym (each-stops (served (a .r .now) (transitionsOf (a .r .now) (a .q))) (one-shifted 16 (a .v) (omega arith))
+    (c .before .before .loop-test .taken) h)
 
 add-w : tie.Need-add-w Inv-loop μ-loop
 add-w c = search needs
@@ -44,7 +45,8 @@ loop-again c =
     let a = c .before .before .before .before .before .args in
     let w = c .before .before .before .loop .w in
     let h = served-once (a .r .now) (transitionsOf (a .r .now) (a .q)) w _ (c .before .takers .ensures) (c .if1 .left) in
-    each-goes (served (a .r .now) (transitionsOf (a .r .now) (a .q))) (c .before .before .loop-test .taken) (c .before .before .before .loop .inv) h
+    each-goes (served (a .r .now) (transitionsOf (a .r .now) (a .q)))
+    (c .before .before .loop-test .taken) (c .before .before .before .loop .inv) h
 
 returns-2 : tie.Need-returns-2 Inv-loop μ-loop
 unfolding total

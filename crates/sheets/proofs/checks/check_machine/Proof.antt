@@ -12,12 +12,14 @@ machine-refusal-requires c κs = search needs
 returns : tie.Need-returns
 unfolding machineRefusal machineQuestions
 returns c =
-    accepts 1 (machineQuestions 1 (c .before .before .before .args .m .now)) (omega arith) (omega arith) _ (c .before .machine-refusal .ensures) (c .if1 .taken)
+    accepts 1 (machineQuestions 1 (c .before .before .before .args .m .now)) (omega arith) (omega arith)
+    _ (c .before .machine-refusal .ensures) (c .if1 .taken)
 
 returns-2 : tie.Need-returns-2
 unfolding machineRefusal machineQuestions
 returns-2 c =
-    refuses 1 (machineQuestions 1 (c .before .before .before .args .m .now)) (omega arith) (omega arith) _ (c .before .machine-refusal .ensures) (c .if1 .left)
+    refuses 1 (machineQuestions 1 (c .before .before .before .args .m .now)) (omega arith) (omega arith)
+    _ (c .before .machine-refusal .ensures) (c .if1 .left)
 
 pub check-machine-spec : {M : Type 1} → statement M
 check-machine-spec = tie.close (tie.spec machine-refusal-requires returns returns-2)

@@ -12,12 +12,14 @@ rule-refusal-requires c κs = search needs
 returns : tie.Need-returns
 unfolding ruleRefusal recordQuestions automataQuestions ruleQuestions
 returns c =
-    accepts 0 (ruleQuestions lent (c .before .before .before .args .r .now)) (omega arith) (omega arith) _ (c .before .rule-refusal .ensures) (c .if1 .taken)
+    accepts 0 (ruleQuestions lent (c .before .before .before .args .r .now)) (omega arith) (omega arith)
+    _ (c .before .rule-refusal .ensures) (c .if1 .taken)
 
 returns-2 : tie.Need-returns-2
 unfolding ruleRefusal recordQuestions automataQuestions ruleQuestions
 returns-2 c =
-    refuses 0 (ruleQuestions lent (c .before .before .before .args .r .now)) (omega arith) (omega arith) _ (c .before .rule-refusal .ensures) (c .if1 .left)
+    refuses 0 (ruleQuestions lent (c .before .before .before .args .r .now)) (omega arith) (omega arith)
+    _ (c .before .rule-refusal .ensures) (c .if1 .left)
 
 pub check-rules-spec : {M : Type 1} → statement M
 check-rules-spec = tie.close (tie.spec rule-refusal-requires returns returns-2)

@@ -57,7 +57,8 @@ returns-2 c =
     let s = c .before .before .before .before .before in
     let a = s .before .before .before .before .before .before .args in
     let at = s .before .before .loop in
-    let e = searched (λ b. b) (transitionWord (a .r .now)) (test (a .t)) 3 _ (at .left) (at .y) (at .inv) (s .before .loop-test .taken) (s .transition .ensures) (c .before .before .before .step .given .1) in
+    let e = searched (λ b. b) (transitionWord (a .r .now)) (test (a .t)) 3 _ (at .left) (at .y) (at .inv)
+    (s .before .loop-test .taken) (s .transition .ensures) (c .before .before .before .step .given .1) in
     sym (e ∙ rw (ne-eqb _ 0 (c .before .if1 .taken), eq-eqb _ _ (c .if2 .taken)))
 
 loop-less : tie.Need-loop-less Inv-loop μ-loop
@@ -68,7 +69,8 @@ loop-again c =
     let s = c .before .before .before .before .before in
     let a = s .before .before .before .before .before .before .args in
     let at = s .before .before .loop in
-    let e = searched (λ b. b) (transitionWord (a .r .now)) (test (a .t)) 3 _ (at .left) (at .y) (at .inv) (s .before .loop-test .taken) (s .transition .ensures) (c .before .before .before .step .given .1) in
+    let e = searched (λ b. b) (transitionWord (a .r .now)) (test (a .t)) 3 _ (at .left) (at .y) (at .inv)
+    (s .before .loop-test .taken) (s .transition .ensures) (c .before .before .before .step .given .1) in
     e ∙ rw (ne-eqb _ 0 (c .before .if1 .taken), ne-eqb _ _ (c .if2 .left))
 
 loop-less-2 : tie.Need-loop-less-2 Inv-loop μ-loop
@@ -79,7 +81,8 @@ loop-again-2 c =
     let s = c .before .before .before .before in
     let a = s .before .before .before .before .before .before .args in
     let at = s .before .before .loop in
-    let e = searched (λ b. b) (transitionWord (a .r .now)) (test (a .t)) 3 _ (at .left) (at .y) (at .inv) (s .before .loop-test .taken) (s .transition .ensures) (c .before .before .step .given .1) in
+    let e = searched (λ b. b) (transitionWord (a .r .now)) (test (a .t)) 3 _ (at .left) (at .y) (at .inv)
+    (s .before .loop-test .taken) (s .transition .ensures) (c .before .before .step .given .1) in
     e ∙ rw (eq-eqb _ 0 (c .if1 .left))
 
 returns-3 : tie.Need-returns-3 Inv-loop μ-loop

@@ -21,7 +21,8 @@ returns : tie.Need-returns
 unfolding decodedBy
 returns c =
     let a = c .before .before .before .before .before .before .args in
-    formed (a .r .now) (a .j) _ (c .before .before .before .before .line-word .ensures) _ (c .before .before .before .line-word2 .ensures) 0 Signal refl (c .before .before .match .keys1) _ (c .before .signal-fits .ensures) (c .if1 .taken)
+    formed (a .r .now) (a .j) _ (c .before .before .before .before .line-word .ensures) _
+    (c .before .before .before .line-word2 .ensures) 0 Signal refl (c .before .before .match .keys1) _ (c .before .signal-fits .ensures) (c .if1 .taken)
 
 negation-fits-requires : tie.Need-negation-fits-requires
 negation-fits-requires c κs = search needs
@@ -30,7 +31,8 @@ returns-2 : tie.Need-returns-2
 unfolding decodedBy
 returns-2 c =
     let a = c .before .before .before .before .before .before .args in
-    formed (a .r .now) (a .j) _ (c .before .before .before .before .line-word .ensures) _ (c .before .before .before .line-word2 .ensures) 1 Negation refl (c .before .before .match .keys2) _ (c .before .negation-fits .ensures) (c .if2 .taken)
+    formed (a .r .now) (a .j) _ (c .before .before .before .before .line-word .ensures) _
+    (c .before .before .before .line-word2 .ensures) 1 Negation refl (c .before .before .match .keys2) _ (c .before .negation-fits .ensures) (c .if2 .taken)
 
 either-fits-requires : tie.Need-either-fits-requires
 either-fits-requires c κs = search needs
@@ -51,7 +53,8 @@ returns-4 : tie.Need-returns-4
 unfolding decodedBy lineFits
 returns-4 c =
     let a = c .before .before .before .before .before .before .args in
-    formed (a .r .now) (a .j) _ (c .before .before .before .before .line-word .ensures) _ (c .before .before .before .line-word2 .ensures) 3 SomePath refl (c .before .before .match .keys4) _ (c .before .path-fits .ensures) (c .if4 .taken)
+    formed (a .r .now) (a .j) _ (c .before .before .before .before .line-word .ensures) _
+    (c .before .before .before .line-word2 .ensures) 3 SomePath refl (c .before .before .match .keys4) _ (c .before .path-fits .ensures) (c .if4 .taken)
 
 path-fits-requires-2 : tie.Need-path-fits-requires-2
 path-fits-requires-2 c κs = search needs
@@ -60,7 +63,8 @@ returns-5 : tie.Need-returns-5
 unfolding decodedBy lineFits
 returns-5 c =
     let a = c .before .before .before .before .before .before .args in
-    formed (a .r .now) (a .j) _ (c .before .before .before .before .line-word .ensures) _ (c .before .before .before .line-word2 .ensures) 4 SomePathNot refl (c .before .before .match .keys5) _ (c .before .path-fits2 .ensures) (c .if5 .taken)
+    formed (a .r .now) (a .j) _ (c .before .before .before .before .line-word .ensures) _
+    (c .before .before .before .line-word2 .ensures) 4 SomePathNot refl (c .before .before .match .keys5) _ (c .before .path-fits2 .ensures) (c .if5 .taken)
 
 returns-6 : tie.Need-returns-6
 returns-6 c =

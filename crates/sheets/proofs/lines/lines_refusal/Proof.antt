@@ -42,7 +42,8 @@ loop-again : tie.Need-loop-again Inv-loop μ-loop
 loop-again c =
     let turn = c .before .before .before in
     let r = turn .before .before .before .before .args .r .now in
-    each-goes (test r) (turn .loop-test .taken) (turn .before .loop .inv) (formed-fits r _ _ (sym (c .before .before .decode .ensures) ∙ c .enum-told .given .1))
+    each-goes (test r) (turn .loop-test .taken) (turn .before .loop .inv)
+    (formed-fits r _ _ (sym (c .before .before .decode .ensures) ∙ c .enum-told .given .1))
 
 enum-told-2 : tie.Need-enum-told-2 Inv-loop μ-loop
 enum-told-2 c = search needs

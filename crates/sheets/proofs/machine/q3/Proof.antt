@@ -45,7 +45,8 @@ returns c =
     let turn = c .before .before .before in
     let read = turn .before .before in
     let m = read .before .before .before .args .m .now in
-    let b = rw (read .signals .ensures, c .before .before .node-word .ensures) at (sym (c .before .below-power .ensures) ∙ not-true _ (c .if1 .taken)) in
+    let b = rw (read .signals .ensures, c .before .before .node-word .ensures) at
+    (sym (c .before .below-power .ensures) ∙ not-true _ (c .if1 .taken)) in
     sym (each-stops (test m) (read .before .nodes .ensures) (turn .loop-test .taken) (rw b))
 
 node-word-requires-2 : tie.Need-node-word-requires-2 Inv-loop μ-loop
@@ -58,7 +59,8 @@ returns-2 c =
     let turn = if1 .before .before .before in
     let read = turn .before .before in
     let m = read .before .before .before .args .m .now in
-    let b = rw (read .signals .ensures, if1 .before .before .node-word .ensures) at (sym (if1 .before .below-power .ensures) ∙ not-false _ (if1 .if1 .left)) in
+    let b = rw (read .signals .ensures, if1 .before .before .node-word .ensures) at
+    (sym (if1 .before .below-power .ensures) ∙ not-false _ (if1 .if1 .left)) in
     let l = rw (c .before .node-word2 .ensures) at (lt-leb _ 1 (c .if2 .taken)) in
     sym (each-stops (test m) (read .before .nodes .ensures) (turn .loop-test .taken) (rw (b, l)))
 
@@ -71,7 +73,8 @@ loop-again c =
     let turn = if1 .before .before .before in
     let read = turn .before .before in
     let m = read .before .before .before .args .m .now in
-    let b = rw (read .signals .ensures, if1 .before .before .node-word .ensures) at (sym (if1 .before .below-power .ensures) ∙ not-false _ (if1 .if1 .left)) in
+    let b = rw (read .signals .ensures, if1 .before .before .node-word .ensures) at
+    (sym (if1 .before .below-power .ensures) ∙ not-false _ (if1 .if1 .left)) in
     let l = rw (c .before .node-word2 .ensures) at (le-leb _ 1 (c .if2 .left)) in
     each-goes (test m) (turn .loop-test .taken) (turn .before .loop .inv) (rw (b, l))
 

@@ -43,7 +43,8 @@ unfolding q4
 returns c =
     let turn = c .before .before .before in
     let read = turn .before .before in
-    let w = rw (read .edges .ensures, c .before .before .node-word .ensures) at (sym (c .before .within .ensures) ∙ not-true _ (c .if1 .taken)) in
+    let w = rw (read .edges .ensures, c .before .before .node-word .ensures) at
+    (sym (c .before .within .ensures) ∙ not-true _ (c .if1 .taken)) in
     sym (each-stops (test (read .before .before .before .args .m .now)) (read .before .nodes .ensures) (turn .loop-test .taken) w)
 
 loop-less : tie.Need-loop-less Inv-loop μ-loop
@@ -53,7 +54,8 @@ loop-again : tie.Need-loop-again Inv-loop μ-loop
 loop-again c =
     let turn = c .before .before .before in
     let read = turn .before .before in
-    let w = rw (read .edges .ensures, c .before .before .node-word .ensures) at (sym (c .before .within .ensures) ∙ not-false _ (c .if1 .left)) in
+    let w = rw (read .edges .ensures, c .before .before .node-word .ensures) at
+    (sym (c .before .within .ensures) ∙ not-false _ (c .if1 .left)) in
     each-goes (test (read .before .before .before .args .m .now)) (turn .loop-test .taken) (turn .before .loop .inv) w
 
 returns-2 : tie.Need-returns-2 Inv-loop μ-loop

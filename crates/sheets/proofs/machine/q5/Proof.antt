@@ -44,7 +44,8 @@ returns c =
     let turn = c .before .before .before in
     let read = turn .before .before in
     let m = read .before .before .before .args .m .now in
-    let w = rw (read .before .nodes .ensures, c .before .before .edge-word .ensures) at (sym (c .before .within .ensures) ∙ not-true _ (c .if1 .taken)) in
+    let w = rw (read .before .nodes .ensures, c .before .before .edge-word .ensures) at
+    (sym (c .before .within .ensures) ∙ not-true _ (c .if1 .taken)) in
     sym (each-stops (test m) (read .edges .ensures) (turn .loop-test .taken) (rw w))
 
 edge-word-requires-2 : tie.Need-edge-word-requires-2 Inv-loop μ-loop
@@ -60,7 +61,8 @@ returns-2 c =
     let turn = if1 .before .before .before in
     let read = turn .before .before in
     let m = read .before .before .before .args .m .now in
-    let w = rw (read .before .nodes .ensures, if1 .before .before .edge-word .ensures) at (sym (if1 .before .within .ensures) ∙ not-false _ (if1 .if1 .left)) in
+    let w = rw (read .before .nodes .ensures, if1 .before .before .edge-word .ensures) at
+    (sym (if1 .before .within .ensures) ∙ not-false _ (if1 .if1 .left)) in
     let l = rw (read .edges .ensures, c .before .before .edge-word2 .ensures) at (sym (c .before .link .ensures) ∙ not-true _ (c .if2 .taken)) in
     sym (each-stops (test m) (read .edges .ensures) (turn .loop-test .taken) (rw (w, l)))
 
@@ -73,7 +75,8 @@ loop-again c =
     let turn = if1 .before .before .before in
     let read = turn .before .before in
     let m = read .before .before .before .args .m .now in
-    let w = rw (read .before .nodes .ensures, if1 .before .before .edge-word .ensures) at (sym (if1 .before .within .ensures) ∙ not-false _ (if1 .if1 .left)) in
+    let w = rw (read .before .nodes .ensures, if1 .before .before .edge-word .ensures) at
+    (sym (if1 .before .within .ensures) ∙ not-false _ (if1 .if1 .left)) in
     let l = rw (read .edges .ensures, c .before .before .edge-word2 .ensures) at (sym (c .before .link .ensures) ∙ not-false _ (c .if2 .left)) in
     each-goes (test m) (turn .loop-test .taken) (turn .before .loop .inv) (rw (w, l))
 

@@ -59,7 +59,8 @@ returns : tie.Need-returns
 unfolding lineWord lent
 returns c =
     let read = c .before .before in
-    rw (read .before .before .automata .ensures, read .before .states .ensures, read .transitions .ensures, c .before .monus .ensures) at (c .word .ensures)
+    rw (read .before .before .automata .ensures, read .before .states .ensures, read .transitions .ensures, c .before .monus .ensures) at
+    (c .word .ensures)
 
 pub line-word-spec : {M : Type 1} → statement M
 line-word-spec =

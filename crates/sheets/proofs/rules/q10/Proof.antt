@@ -59,7 +59,8 @@ returns-2 c =
     let read = turn .before .before in
     let r = read .before .before .before .args .r .now in
     let a = rw (if1 .before .state-word .ensures) at (le-leb _ 1 (if1 .if1 .left)) in
-    let w = rw (read .transitions .ensures, c .before .before .state-word2 .ensures) at (sym (c .before .within .ensures) ∙ not-true _ (c .if2 .taken)) in
+    let w = rw (read .transitions .ensures, c .before .before .state-word2 .ensures) at
+    (sym (c .before .within .ensures) ∙ not-true _ (c .if2 .taken)) in
     sym (each-stops (test r) (read .before .states .ensures) (turn .loop-test .taken) (rw (a, w)))
 
 state-word-requires-3 : tie.Need-state-word-requires-3 Inv-loop μ-loop
@@ -77,8 +78,10 @@ returns-3 c =
     let read = turn .before .before in
     let r = read .before .before .before .args .r .now in
     let a = rw (if1 .before .state-word .ensures) at (le-leb _ 1 (if1 .if1 .left)) in
-    let w = rw (read .transitions .ensures, if2 .before .before .state-word2 .ensures) at (sym (if2 .before .within .ensures) ∙ not-false _ (if2 .if2 .left)) in
-    let l = rw (read .before .states .ensures, c .before .before .state-word3 .ensures) at (sym (c .before .link .ensures) ∙ not-true _ (c .if3 .taken)) in
+    let w = rw (read .transitions .ensures, if2 .before .before .state-word2 .ensures) at
+    (sym (if2 .before .within .ensures) ∙ not-false _ (if2 .if2 .left)) in
+    let l = rw (read .before .states .ensures, c .before .before .state-word3 .ensures) at
+    (sym (c .before .link .ensures) ∙ not-true _ (c .if3 .taken)) in
     sym (each-stops (test r) (read .before .states .ensures) (turn .loop-test .taken) (rw (a, w, l)))
 
 loop-less : tie.Need-loop-less Inv-loop μ-loop
@@ -92,8 +95,10 @@ loop-again c =
     let read = turn .before .before in
     let r = read .before .before .before .args .r .now in
     let a = rw (if1 .before .state-word .ensures) at (le-leb _ 1 (if1 .if1 .left)) in
-    let w = rw (read .transitions .ensures, if2 .before .before .state-word2 .ensures) at (sym (if2 .before .within .ensures) ∙ not-false _ (if2 .if2 .left)) in
-    let l = rw (read .before .states .ensures, c .before .before .state-word3 .ensures) at (sym (c .before .link .ensures) ∙ not-false _ (c .if3 .left)) in
+    let w = rw (read .transitions .ensures, if2 .before .before .state-word2 .ensures) at
+    (sym (if2 .before .within .ensures) ∙ not-false _ (if2 .if2 .left)) in
+    let l = rw (read .before .states .ensures, c .before .before .state-word3 .ensures) at
+    (sym (c .before .link .ensures) ∙ not-false _ (c .if3 .left)) in
     each-goes (test r) (turn .loop-test .taken) (turn .before .loop .inv) (rw (a, w, l))
 
 returns-4 : tie.Need-returns-4 Inv-loop μ-loop

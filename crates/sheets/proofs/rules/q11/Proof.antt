@@ -44,7 +44,8 @@ returns c =
     let turn = c .before .before .before in
     let read = turn .before .before in
     let r = read .before .before .before .args .r .now in
-    let w = rw (read .before .states .ensures, c .before .before .transition-word .ensures) at (sym (c .before .within .ensures) ∙ not-true _ (c .if1 .taken)) in
+    let w = rw (read .before .states .ensures, c .before .before .transition-word .ensures) at
+    (sym (c .before .within .ensures) ∙ not-true _ (c .if1 .taken)) in
     sym (each-stops (test r) (read .transitions .ensures) (turn .loop-test .taken) (rw w))
 
 transition-word-requires-2 : tie.Need-transition-word-requires-2 Inv-loop μ-loop
@@ -60,8 +61,10 @@ returns-2 c =
     let turn = if1 .before .before .before in
     let read = turn .before .before in
     let r = read .before .before .before .args .r .now in
-    let w = rw (read .before .states .ensures, if1 .before .before .transition-word .ensures) at (sym (if1 .before .within .ensures) ∙ not-false _ (if1 .if1 .left)) in
-    let l = rw (read .transitions .ensures, c .before .before .transition-word2 .ensures) at (sym (c .before .link .ensures) ∙ not-true _ (c .if2 .taken)) in
+    let w = rw (read .before .states .ensures, if1 .before .before .transition-word .ensures) at
+    (sym (if1 .before .within .ensures) ∙ not-false _ (if1 .if1 .left)) in
+    let l = rw (read .transitions .ensures, c .before .before .transition-word2 .ensures) at
+    (sym (c .before .link .ensures) ∙ not-true _ (c .if2 .taken)) in
     sym (each-stops (test r) (read .transitions .ensures) (turn .loop-test .taken) (rw (w, l)))
 
 loop-less : tie.Need-loop-less Inv-loop μ-loop
@@ -73,8 +76,10 @@ loop-again c =
     let turn = if1 .before .before .before in
     let read = turn .before .before in
     let r = read .before .before .before .args .r .now in
-    let w = rw (read .before .states .ensures, if1 .before .before .transition-word .ensures) at (sym (if1 .before .within .ensures) ∙ not-false _ (if1 .if1 .left)) in
-    let l = rw (read .transitions .ensures, c .before .before .transition-word2 .ensures) at (sym (c .before .link .ensures) ∙ not-false _ (c .if2 .left)) in
+    let w = rw (read .before .states .ensures, if1 .before .before .transition-word .ensures) at
+    (sym (if1 .before .within .ensures) ∙ not-false _ (if1 .if1 .left)) in
+    let l = rw (read .transitions .ensures, c .before .before .transition-word2 .ensures) at
+    (sym (c .before .link .ensures) ∙ not-false _ (c .if2 .left)) in
     each-goes (test r) (turn .loop-test .taken) (turn .before .loop .inv) (rw (w, l))
 
 returns-3 : tie.Need-returns-3 Inv-loop μ-loop

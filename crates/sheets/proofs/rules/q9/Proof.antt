@@ -59,7 +59,8 @@ returns-2 c =
     let read = turn .before .before in
     let r = read .before .before .before .args .r .now in
     let v = rw (if1 .before .automaton-word .ensures) at (le-leb _ 4 (if1 .if1 .left)) in
-    let w = rw (read .states .ensures, c .before .before .automaton-word2 .ensures) at (sym (c .before .within .ensures) ∙ not-true _ (c .if2 .taken)) in
+    let w = rw (read .states .ensures, c .before .before .automaton-word2 .ensures) at
+    (sym (c .before .within .ensures) ∙ not-true _ (c .if2 .taken)) in
     sym (each-stops (test r) (read .before .automata .ensures) (turn .loop-test .taken) (rw (v, w)))
 
 loop-less : tie.Need-loop-less Inv-loop μ-loop
@@ -72,7 +73,8 @@ loop-again c =
     let read = turn .before .before in
     let r = read .before .before .before .args .r .now in
     let v = rw (if1 .before .automaton-word .ensures) at (le-leb _ 4 (if1 .if1 .left)) in
-    let w = rw (read .states .ensures, c .before .before .automaton-word2 .ensures) at (sym (c .before .within .ensures) ∙ not-false _ (c .if2 .left)) in
+    let w = rw (read .states .ensures, c .before .before .automaton-word2 .ensures) at
+    (sym (c .before .within .ensures) ∙ not-false _ (c .if2 .left)) in
     each-goes (test r) (turn .loop-test .taken) (turn .before .loop .inv) (rw (v, w))
 
 returns-3 : tie.Need-returns-3 Inv-loop μ-loop

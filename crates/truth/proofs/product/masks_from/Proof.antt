@@ -23,7 +23,8 @@ abbrev Inv-loop : tie.InvT-loop
 Inv-loop r q states t out₀ left₀ y₀ out left y =
     (length out ≡ 16)
     × ((k w : ℕ) → k < t
-    → takes r q w (getD states k 0) ≡ (bit (getD out k 0) w || passes (transitionWord r) (test w (getD states k 0)) (rest (transitionWord r) 3 left y)))
+    → takes r q w (getD states k 0) ≡ (bit (getD out k 0) w ||
+    passes (transitionWord r) (test w (getD states k 0)) (rest (transitionWord r) 3 left y)))
 
 abbrev μ-loop : tie.MeasureT-loop
 μ-loop r q states t out₀ left₀ y₀ out left y = left

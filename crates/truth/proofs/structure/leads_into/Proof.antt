@@ -57,7 +57,8 @@ returns-2 c =
     let s = c .before .before .before .before .before in
     let a = s .before .before .before .before .before .before .args in
     let at = s .before .before .loop in
-    let e = searched (λ b. b) (edgeWord (a .m .now)) (into (a .row)) 2 _ (at .left) (at .x) (at .inv) (s .before .loop-test .taken) (s .edge .ensures) (c .before .before .before .step .given .1) in
+    let e = searched (λ b. b) (edgeWord (a .m .now)) (into (a .row)) 2 _ (at .left) (at .x) (at .inv)
+    (s .before .loop-test .taken) (s .edge .ensures) (c .before .before .before .step .given .1) in
     sym (rw (sym (c .before .has .ensures) ∙ c .if1 .taken) at e)
 
 sub-left : tie.Need-sub-left Inv-loop μ-loop
@@ -71,7 +72,8 @@ loop-again c =
     let s = c .before .before .before .before .before in
     let a = s .before .before .before .before .before .before .args in
     let at = s .before .before .loop in
-    let e = searched (λ b. b) (edgeWord (a .m .now)) (into (a .row)) 2 _ (at .left) (at .x) (at .inv) (s .before .loop-test .taken) (s .edge .ensures) (c .before .before .before .step .given .1) in
+    let e = searched (λ b. b) (edgeWord (a .m .now)) (into (a .row)) 2 _ (at .left) (at .x) (at .inv)
+    (s .before .loop-test .taken) (s .edge .ensures) (c .before .before .before .step .given .1) in
     rw (sym (c .before .has .ensures) ∙ c .if1 .left) at e
 
 returns-3 : tie.Need-returns-3 Inv-loop μ-loop
