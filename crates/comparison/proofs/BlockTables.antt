@@ -4,7 +4,7 @@ use mathlib.Core.Logic.{_≢_, inl, inr, ⊎-elim}
 use Prim.Native.Nat.{ℕ, _+_, _*_, _≤_, _<_}
 use native.Mathlib.Omega.{arith}
 use mathlib.Core.List.{List}
-use mathlib.Core.Bool.{Bool, true, false, not, _&&_}
+use mathlib.Core.Bool.{Bool, true, false, not, _&&_, true≢false}
 use borrow.Author.Tests.{not-false}
 use lib.ListN.{length, getD, set, length-set}
 use lib.Seq.{getD-set-same, getD-set-other}
@@ -12,7 +12,8 @@ use lib.Dec.{T, T-not, not-T}
 use Rattle.truth.specs.Passed.{each, within}
 use Rattle.truth.specs.Rows.{held, rowsHas}
 use Rattle.truth.proofs.Passed.{and-both, and-left, and-right, surely, find, within-in, each-at, each-in}
-use Rattle.truth.proofs.TableLaws.{held-in, stored-length, stored-here, stored-other, true-false}
+use Rattle.truth.proofs.rows.RowLaws.{held-in}
+use Rattle.truth.proofs.tables.TableLaws.{stored-length, stored-here, stored-other}
 use Rattle.comparison.specs.Blocks.{In, AllIn, Meets, Unsplit, Split}
 use Rattle.comparison.specs.Tables.{PartedRows, LinedBlocks, OfNodes, TellsMeets, TellsSplit}
 
@@ -68,7 +69,7 @@ module _ (M₁ M₂ B₁ B₂ : List ℕ) (c : ℕ) (p₁ p₂ x₁ x₂ : ℕ �
   pub meets-first : r₁ ≡ true → TellsMeets M₁ M₂ (rowsHas B₁) (rowsHas B₂) c x₁ x₂ true
   unfolding Meets In OfNodes
   meets-first y = record {
-    no = λ z. absurd (true-false z);
+    no = λ z. absurd (true≢false z);
     yes = λ z i. let m = some-both p₁ x₁ (sym f₁ ∙ y) in let t = subst T (e₁ (m .0)) (m .2) in inl (m .0, (m .1, i .0 (m .0) t, t), m .3);
   }
 
@@ -88,7 +89,7 @@ module _ (M₁ M₂ B₁ B₂ : List ℕ) (c : ℕ) (x₁ x₂ : ℕ → Bool) (
   unfolding Unsplit AllIn Meets
   tells-none n = record {
     no = λ z. inr (λ s i. not-T (x₁ s) (λ t. in-sets .no n (inl (s, i, t))), λ s i. not-T (x₂ s) (λ t. in-sets .no n (inr (s, i, t))));
-    yes = λ z. absurd (true-false (sym z));
+    yes = λ z. absurd (true≢false (sym z));
   }
 
   -- y₁ and y₂ are their complements

@@ -11,7 +11,7 @@ use lib.Dec.{T, leb, leb→le}
 use Rattle.truth.specs.Passed.{nodes, signals, machineRefusal, within}
 use Rattle.truth.specs.Rows.{held, rowsHas}
 use Rattle.truth.proofs.Passed.{and-left, passed, within-in, signals-sized}
-use Rattle.truth.proofs.TableLaws.{stored-length, stored-here}
+use Rattle.truth.proofs.tables.TableLaws.{stored-length, stored-here}
 use Rattle.comparison.specs.Lines.{firstLines, Holds}
 use Rattle.comparison.specs.Tables.{OfNodes}
 use Rattle.comparison.specs.Stages.{Staged}

@@ -6,7 +6,7 @@ use mathlib.Core.List.{List, [], _∷_, _++_}
 use mathlib.Core.Bool.{Bool, true, false}
 use Rattle.truth.specs.Passed.{Refusal, none as noRefusal, Question, ask, firstNo, machineQuestions, machineRefusal}
 use Rattle.truth.proofs.Passed.{Every, first-has, Numbered, first-table, later-table}
-use Rattle.truth.proofs.LabelTable.{none-first}
+use Rattle.truth.proofs.labelling.LabelTable.{none-first}
 
 -- ---- any table
 

@@ -5,13 +5,12 @@ use Prim.Native.Nat.{ℕ, _+_, _-_, _*_, _≤_, _<_}
 use native.Mathlib.Decide.{ℕ-discrete}
 use native.Mathlib.Omega.{arith}
 use mathlib.Core.List.{List}
-use mathlib.Core.Bool.{Bool, true, false, not, _&&_}
+use mathlib.Core.Bool.{Bool, true, false, not, _&&_, true≢false}
 use borrow.Author.Tests.{le-leb, ne-eqb}
 use lib.Dec.{T, leb, leb→le, eqb}
 use Rattle.truth.specs.Passed.{kripke, signals, within}
 use Rattle.truth.specs.Rows.{tally}
 use Rattle.truth.proofs.Passed.{intoSet, and-left, passed, within-in}
-use Rattle.truth.proofs.TableLaws.{true-false}
 use Rattle.comparison.specs.Blocks.{Unsplit}
 use Rattle.comparison.specs.Tables.{State, firstOf, secondOf}
 use Rattle.comparison.specs.Stages.{Staged, Finer, Kept, Divided, Signalled, AllOwed, Settled, Partitioned}
@@ -63,7 +62,7 @@ next-kept M₁ M₂ st st′ c d k u =
 
 module _ (M₁ M₂ : List ℕ) (st : State) where
   pub settling-all : Signalled M₁ M₂ st → AllOwed st → Settling M₁ M₂ st
-  settling-all s a = record { signalled = s; only = a .only; settled = λ c d l h e. absurd (true-false (sym (a .each d h) ∙ e)) }
+  settling-all s a = record { signalled = s; only = a .only; settled = λ c d l h e. absurd (true≢false (sym (a .each d h) ∙ e)) }
 
   pub settling-end : Settling M₁ M₂ st → ((d : ℕ) → st .owed d ≡ false) → Settled M₁ M₂ st
   settling-end s none = record { signalled = s .signalled; nexts-done = λ c d l h. s .settled c d l h (none (d + 1)) }
@@ -95,7 +94,7 @@ module _ (M₁ M₂ : List ℕ) (st : State) where
             unsplit-finer M₁ M₂ st st′ (intoSet M₁ (firstOf st b)) (intoSet M₂ (secondOf st b)) finer (λ a m. s .settled a b m (k .0 .was) free) c g))
           where
             was-free : (x y : Bool) → y ≡ false → (x && not y) ≡ false → x ≡ false
-            was-free true y f z = absurd (true-false (sym (rw f) ∙ z))
+            was-free true y f z = absurd (true≢false (sym (rw f) ∙ z))
             was-free false y f z = z
 
         pub settling-more : Settling M₁ M₂ st′

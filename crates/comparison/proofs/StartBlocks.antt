@@ -5,12 +5,11 @@ use Prim.Native.Nat.{ℕ, _+_, _-_, _≤_, _<_}
 use native.Mathlib.Omega.{arith}
 use native.Mathlib.Decide.{decLt}
 use mathlib.Core.List.{List}
-use mathlib.Core.Bool.{Bool, true, false, not, _&&_, Bool·beq}
+use mathlib.Core.Bool.{Bool, true, false, not, _&&_, Bool·beq, true≢false}
 use lib.Dec.{T, T-not, not-T}
 use Rattle.truth.specs.Passed.{nodes, each}
 use Rattle.truth.proofs.Passed.{and-left, and-right, and-both, each-at, each-in, find, start-node}
-use Rattle.truth.proofs.StartRows.{startTest, start-tested, tested-start}
-use Rattle.truth.proofs.TableLaws.{true-false}
+use Rattle.truth.proofs.labelling.StartRows.{startTest, start-tested, tested-start}
 use Rattle.comparison.specs.Blocks.{Members, HasStart, OneStart}
 use Rattle.comparison.specs.Sides.{OneSided}
 
@@ -52,10 +51,10 @@ agree a b f g n = let e = beq-same a b n in (λ x. g .0 (subst T e (f .1 x)), λ
 pub one-start : (M₁ M₂ : List ℕ) (m₁ m₂ : Members) (c : ℕ) (a b : Bool) → T a ↔ HasStart M₁ m₁ c → T b ↔ HasStart M₂ m₂ c → not (Bool·beq a b) ≡ true
     → OneStart M₁ M₂ m₁ m₂ c
 unfolding OneStart
-one-start M₁ M₂ m₁ m₂ c true true f g n = absurd (true-false (sym n))
+one-start M₁ M₂ m₁ m₂ c true true f g n = absurd (true≢false (sym n))
 one-start M₁ M₂ m₁ m₂ c true false f g n = inl (f .0 tt, λ y. g .1 y)
 one-start M₁ M₂ m₁ m₂ c false true f g n = inr (λ x. f .1 x, g .0 tt)
-one-start M₁ M₂ m₁ m₂ c false false f g n = absurd (true-false (sym n))
+one-start M₁ M₂ m₁ m₂ c false false f g n = absurd (true≢false (sym n))
 
 -- ---- the loop over the blocks
 

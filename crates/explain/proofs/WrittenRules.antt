@@ -15,7 +15,7 @@ use Rattle.sheets.proofs.Tests.{passed}
 use Rattle.sheets.proofs.Questions.{rule-answers, yes, none}
 use Rattle.sheets.proofs.AcceptedMachine.{signals-sized}
 use Rattle.truth.specs.Labelling.{labelQuestions}
-use Rattle.truth.proofs.LabelTable.{spaceQuestion, by-last}
+use Rattle.truth.proofs.labelling.LabelTable.{spaceQuestion, by-last}
 use Rattle.comparison.specs.Comparison.{Written, nextWords}
 use Rattle.comparison.specs.Answers.{comparisonQuestions}
 use Rattle.comparison.proofs.CompareTable.{Compared, compared}

@@ -10,7 +10,7 @@ use Rattle.sheets.specs.Rules.{lines}
 use Rattle.truth.specs.Answers.{refusalOf, Leaves, LabelAnswer}
 use Rattle.truth.specs.declared.labelling.Labelled.{Labelled}
 use Rattle.truth.specs.declared.labelling.Labelled.the-variants.{Refused, Done}
-use Rattle.truth.proofs.LabelTable.{space-enough}
+use Rattle.truth.proofs.labelling.LabelTable.{space-enough}
 use Rattle.input.specs.Bytes.{readable}
 use Rattle.label.specs.Program.{answerOf, Answered}
 use Rattle.label.specs.declared.answer.Answer.{Answer}

@@ -186,7 +186,7 @@ module _ (state node : ℕ → ℕ) (i j : ℕ) where
 
 module _ (A : Arena) (q s : ℕ) (start : In A q s) (p : Endless A q s) where
   -- a path stays among the pairs
-  in-range : (i : ℕ) → In A (p .state i) (p .node i)
+  pub in-range : (i : ℕ) → In A (p .state i) (p .node i)
   in-range zero = rw (p .begins, p .starts) start
   in-range (suc i) = p .steps i .target
 

@@ -1,17 +1,16 @@
 -- The marked cases of document 01 on truth: (e) Even on M3, (f) automata with no variable, (k) the percent of 1 of 8.
-use mathlib.Core.Path.{_≡_, refl, sym, subst, _∙_}
-use mathlib.Core.Logic.{⊎-elim}
-use Prim.Native.Nat.{ℕ, zero, suc, _+_, _-_, _^_, _≤_, _<_}
+use mathlib.Core.Path.{_≡_, refl, sym, subst}
+use Prim.Native.Nat.{ℕ, zero, suc, _+_, _-_, _≤_, _<_}
 use native.Mathlib.Omega.{arith}
 use mathlib.Core.List.{List}
-use mathlib.Core.Bool.{Bool, true, false, not, _&&_, _||_}
+use mathlib.Core.Bool.{Bool, true, false, _&&_, _||_}
 use lib.Dec.{T, eqb, eqb→eq}
-use Rattle.sheets.specs.Words.{word, bit, anyOf, chain, within}
-use Rattle.sheets.specs.Machine.{nodes, edges, nodeWord, edgeWord, signalAt, startFlag, target, edgesOf, kripke, machineRefusal}
+use Rattle.sheets.specs.Words.{word, bit, anyOf, chain}
+use Rattle.sheets.specs.Machine.{nodes, edges, nodeWord, edgeWord, signalAt, target, edgesOf, kripke, machineRefusal}
 use Rattle.sheets.specs.Rules.{lent, automata, states, transitions, automatonWord, stateWord, transitionWord, lineWord, variables, initial, accepting, transitionsOf, transitionTarget, mask, automaton, lineOf, line}
 use Rattle.sheets.specs.Worked.{M3}
 use Rattle.sheets.proofs.AcceptedMachine.{firstNext, first-edge, edge-stays}
-use Rattle.truth.specs.Truth.{Truths, Valuation, SomePath, Means, TrueWithin, True, TrueAt}
+use Rattle.truth.specs.Truth.{Valuation, SomePath, Means, TrueWithin, True, TrueAt}
 use Rattle.truth.specs.Labelling.{percent}
 use Rattle.truth.specs.Worked.{EvenSheet, OneState}
 

@@ -2,14 +2,13 @@
 -- `times` when each was met. What one addition, one turn and one round change, and what holds in between.
 use mathlib.Core.Path.{_≡_}
 use mathlib.Core.Logic.{_⊎_, _↔_}
-use Prim.Native.Nat.{ℕ, _+_, _-_, _*_, _≤_, _<_}
+use Prim.Native.Nat.{ℕ, _+_, _*_, _≤_, _<_}
 use mathlib.Core.List.{List}
-use mathlib.Core.Bool.{Bool, true, false, not, _&&_, _||_}
+use mathlib.Core.Bool.{Bool, not, _&&_, _||_}
 use lib.ListN.{length}
-use lib.Dec.{T, eqb, ltb}
-use Rattle.sheets.proofs.Counting.{sum}
+use lib.Dec.{T, ltb}
 use Rattle.truth.specs.Rows.{rowsHas}
-use Rattle.truth.specs.Pairs.{Steps, UpTo, Transposed, Reaches, timeOf}
+use Rattle.truth.specs.Pairs.{Steps, UpTo, Transposed, Before, Cleared, Reaches, timeOf, Sooner, weight}
 
 -- ---- what changes
 
@@ -40,24 +39,15 @@ below k e p s = ltb p k && e p s
 -- the pairs with a step to a new pair at p′, which then is no more new, are added
 pub record Turn (allow back : List ℕ) (t p′ time : ℕ) (ys new times ys′ new′ times′ : List ℕ) : Type 0 where
   pub prev : ℕ → Bool
-  pub before : (s : ℕ) → T (prev s) ↔ ((u : ℕ) × T (rowsHas new p′ u) × T (rowsHas back (u - 1) s))
+  pub before : (s : ℕ) → T (prev s) ↔ Before back (rowsHas new p′) s
   pub cleared : List ℕ
-  pub clear-size : length cleared ≡ length new
-  pub clears : (p s : ℕ) → rowsHas cleared p s ≡ (rowsHas new p s && not (eqb p p′))
+  pub clears : Cleared p′ new cleared
   pub spread : Spread (below t (enters allow p′ prev)) time ys cleared times ys′ new′ times′
 
 -- ---- what falls: a pair not met may be met and then be new, once
 
-unfoldable pub weight : Bool → Bool → ℕ
-weight true false = 0
-weight true true = 1
-weight false false = 2
-weight false true = 3
-
--- of positions below t
-unfoldable pub left : ℕ → List ℕ → List ℕ → ℕ
-unfolding sum weight
-left t ys new = sum t (λ q. sum 128 (λ s. weight (rowsHas ys (q - 1) s) (rowsHas new (q - 1) s)))
+abbrev pub left : ℕ → List ℕ → List ℕ → ℕ
+left t ys new = weight t (λ p s. not (rowsHas ys p s)) (rowsHas new)
 
 -- ---- what holds in between
 
@@ -67,8 +57,7 @@ pub record Growing (allow next : List ℕ) (n t : ℕ) (xs ys new times : List �
   pub fresh : (p s : ℕ) → p < t → T (rowsHas new p s) → T (rowsHas ys p s)
   pub upTo : UpTo n t ys
   pub done : (p s p′ s′ : ℕ) → p < t → Steps allow next t p s p′ s′ → T (rowsHas ys p′ s′) → T (rowsHas ys p s) ⊎ T (rowsHas new p′ s′)
-  pub falls : (p s : ℕ) → p < t → T (rowsHas ys p s)
-      → T (rowsHas xs p s) ⊎ ((p′ s′ : ℕ) × Steps allow next t p s p′ s′ × T (rowsHas ys p′ s′) × (timeOf times p′ s′ < timeOf times p s))
+  pub falls : (p s : ℕ) → p < t → T (rowsHas ys p s) → T (rowsHas xs p s) ⊎ Sooner allow next t ys times p s
   pub early : (p s : ℕ) → p < t → T (rowsHas ys p s) → timeOf times p s < time
 
 -- turns one after the other, from one time to another
@@ -80,7 +69,3 @@ pub record Turns (allow back : List ℕ) (t time time′ : ℕ) (ys new times ys
   pub fewer : time′ + left t ys′ new′ ≤ time + left t ys new
   pub grows : (n : ℕ) (next xs : List ℕ) → Transposed n next back → UpTo n 256 allow
       → Growing allow next n t xs ys new times time → Growing allow next n t xs ys′ new′ times′ time′
-
--- no position below k has a new pair
-abbrev pub NoneNew : ℕ → List ℕ → Type 0
-NoneNew k new = (p s : ℕ) → p < k → T (not (rowsHas new p s))

@@ -3,20 +3,24 @@ use mathlib.Core.Path.{_≡_}
 use mathlib.Core.Logic.{_↔_}
 use Prim.Native.Nat.{ℕ, _+_, _-_, _*_, _/_, _%_, _≤_, _<_}
 use mathlib.Core.List.{List, [], _∷_, _++_}
-use mathlib.Core.Bool.{Bool, true, false}
+use mathlib.Core.Bool.{Bool, false}
 use lib.ListN.{length}
 use lib.Count.{ones}
 use lib.Dec.{T, leb}
 use Rattle.sheets.specs.Words.{word, bit, indicator}
 use Rattle.sheets.specs.Questions.{Question, ask}
 use Rattle.sheets.specs.Machine.{machineQuestions, nodes, signals, kripke}
-use Rattle.sheets.specs.Rules.{Form, lent, ruleQuestions, overSignals, lines}
-use Rattle.truth.specs.Truth.{TrueAt}
+use Rattle.sheets.specs.Rules.{lent, ruleQuestions, overSignals, lines}
+use Rattle.truth.specs.Truth.{Truths, TrueAt}
 
 -- node s in the row of line j: two words of 64 bits a line
 unfoldable pub rowBit : List ℕ → ℕ → ℕ → Bool
 unfolding word bit
 rowBit rows j s = bit (word rows (2 * (j - 1) + (s - 1) / 64)) ((s - 1) % 64)
+
+-- the truths that the bits of the rows say
+abbrev pub rowTruths : List ℕ → Truths
+rowTruths rows j s = T (rowBit rows j s)
 
 -- the ones in the row of line j
 unfoldable pub rowOnes : List ℕ → ℕ → ℕ
@@ -32,12 +36,16 @@ unfoldable pub labelQuestions : List ℕ → List ℕ → ℕ → List Question
 unfolding machineQuestions ruleQuestions lent overSignals signals lines
 labelQuestions M R space = machineQuestions 1 M ++ (ruleQuestions lent R ++ (ask 16 0 (overSignals lent (signals M) R) ∷ ask 17 0 (leb (2 * lines R) space) ∷ []))
 
--- `after` is `before` with the rows of R on M
-pub record Rows (M R before after : List ℕ) : Type 0 where
+-- `after` is `before` with the rows of the lines 1 to k of R on M
+pub record RowsTo (M R : List ℕ) (k : ℕ) (before after : List ℕ) : Type 0 where
   pub size : length after ≡ length before
-  pub truth : (j s : ℕ) → 1 ≤ j → j ≤ lines R → 1 ≤ s → s ≤ nodes M → T (rowBit after j s) ↔ TrueAt lent M R j s
-  pub clear : (j s : ℕ) → 1 ≤ j → j ≤ lines R → nodes M < s → s ≤ 128 → rowBit after j s ≡ false
-  pub rest : (i : ℕ) → 2 * lines R ≤ i → word after i ≡ word before i
+  pub truth : (j s : ℕ) → 1 ≤ j → j ≤ k → 1 ≤ s → s ≤ nodes M → T (rowBit after j s) ↔ TrueAt lent M R j s
+  pub clear : (j s : ℕ) → 1 ≤ j → j ≤ k → nodes M < s → s ≤ 128 → rowBit after j s ≡ false
+  pub rest : (i : ℕ) → 2 * k ≤ i → word after i ≡ word before i
+
+-- of all lines
+abbrev pub Rows : List ℕ → List ℕ → List ℕ → List ℕ → Type 0
+Rows M R before after = RowsTo M R (lines R) before after
 
 -- the machine sheet that a question is put to, in a call with one machine sheet: 1 for questions 1 to 6, otherwise 0
 unfoldable pub sheetOf : ℕ → ℕ

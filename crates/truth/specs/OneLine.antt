@@ -1,30 +1,40 @@
 -- The row of one line, from whatever rows stand above it.
 use mathlib.Core.Path.{_≡_}
 use mathlib.Core.Logic.{_↔_}
-use Prim.Native.Nat.{ℕ, _+_, _-_, _*_, _≤_, _<_}
+use Prim.Native.Nat.{ℕ, _-_, _*_, _≤_, _<_}
 use mathlib.Core.List.{List}
 use mathlib.Core.Bool.{Bool, false, _&&_}
 use lib.ListN.{length}
 use lib.Dec.{T, leb}
 use Rattle.sheets.specs.Words.{within}
 use Rattle.sheets.specs.Machine.{nodes, kripke, machineRefusal}
-use Rattle.sheets.specs.Rules.{lent, lines, automata, variables, statesOf, lineWord, automaton, line, ruleRefusal}
+use Rattle.sheets.specs.Rules.{lent, lines, automata, variables, statesOf, automaton, line, ruleRefusal}
 use Rattle.truth.specs.Truth.{Means, SomePath}
-use Rattle.truth.specs.Product.{good, Allowed, GoodRows}
-use Rattle.truth.specs.Rows.{rowsHas}
-use Rattle.truth.specs.Pairs.{Transposed, Greatest, Least}
-use Rattle.truth.specs.Labelling.{rowBit}
+use Rattle.truth.specs.Product.{argument, good, Refers, Allowed, GoodRows}
+use Rattle.truth.specs.Pairs.{edgeIn, Transposed, Greatest, Least}
+use Rattle.truth.specs.Labelling.{rowTruths}
 
--- accepted sheets, and the tables of the machine: the successors of node s at row s - 1, its predecessors likewise
+-- row s - 1 of `next` has the successors of node s of M
+abbrev pub Successors : List ℕ → List ℕ → Type 0
+Successors M next = (s u : ℕ) → 1 ≤ s → s ≤ nodes M → edgeIn next s u ≡ (within 1 128 u && kripke M .edge s u)
+
+-- accepted sheets, and the tables of the machine: the successors of each node, and its predecessors likewise
 pub record Ready (M R next back : List ℕ) : Type 0 where
   pub machine : machineRefusal M ≡ 0
   pub rules : ruleRefusal lent R ≡ 0
-  pub successors : (s u : ℕ) → 1 ≤ s → s ≤ nodes M → rowsHas next (s - 1) u ≡ (within 1 128 u && kripke M .edge s u)
+  pub successors : Successors M next
   pub predecessors : Transposed (nodes M) next back
+
+-- line j, where the rows of the lines above it are there
+pub record LineReady (M R next back rows : List ℕ) (j : ℕ) : Type 0 where
+  pub ready : Ready M R next back
+  pub from : 1 ≤ j
+  pub to : j ≤ lines R
+  pub above : 2 * (j - 1) ≤ length rows
 
 -- a set is the row of line j: it has the nodes where the line is true by the bits of the rows above it, and no other bit
 pub record LineRow (M R rows : List ℕ) (j : ℕ) (row : ℕ → Bool) : Type 0 where
-  pub truth : (s : ℕ) → 1 ≤ s → s ≤ nodes M → T (row s) ↔ Means (kripke M) (automaton R) (λ i s. T (rowBit rows i s)) (line lent R j) s
+  pub truth : (s : ℕ) → 1 ≤ s → s ≤ nodes M → T (row s) ↔ Means (kripke M) (automaton R) (rowTruths rows) (line lent R j) s
   pub clear : (s : ℕ) → nodes M < s → row s ≡ false
 
 -- a path line of automaton x, whose argument lines stand above it
@@ -32,12 +42,15 @@ pub record PathReady (M R next back rows : List ℕ) (j x : ℕ) : Type 0 where
   pub ready : Ready M R next back
   pub from : 1 ≤ x
   pub to : x ≤ automata R
-  pub arguments : (i : ℕ) → i < variables R x → (1 ≤ lineWord lent R j (2 + i)) × (2 * lineWord lent R j (2 + i) ≤ length rows)
+  pub arguments : Refers R rows j (variables R x)
+
+-- the path of line j exists from s, by the bits of the rows above it
+abbrev pub Holds : List ℕ → List ℕ → List ℕ → ℕ → ℕ → Bool → ℕ → Type 0
+Holds M R rows j x exchanged s = SomePath (kripke M) (automaton R x) (rowTruths rows) (argument R j) (good exchanged R) s
 
 -- a set has the nodes from which the path of line j exists, and no other bit
 pub record PathRow (M R rows : List ℕ) (j x : ℕ) (exchanged : Bool) (row : ℕ → Bool) : Type 0 where
-  pub truth : (s : ℕ) → 1 ≤ s → s ≤ nodes M
-      → T (row s) ↔ SomePath (kripke M) (automaton R x) (λ i s. T (rowBit rows i s)) (λ i. lineWord lent R j (2 + i)) (good exchanged R) s
+  pub truth : (s : ℕ) → 1 ≤ s → s ≤ nodes M → T (row s) ↔ Holds M R rows j x exchanged s
   pub clear : (s : ℕ) → nodes M < s → row s ≡ false
 
 -- the nodes of M, as a row has them

@@ -4,10 +4,11 @@ use mathlib.Core.Path.{_≡_}
 use mathlib.Core.Logic.{_⊎_}
 use Prim.Native.Nat.{ℕ, _+_, _-_, _*_, _≤_, _<_}
 use mathlib.Core.List.{List}
-use mathlib.Core.Bool.{Bool, _&&_}
+use mathlib.Core.Bool.{Bool, not, _&&_}
 use lib.ListN.{length, getD}
-use lib.Dec.{T, leb}
-use Rattle.sheets.specs.Words.{within}
+use lib.Dec.{T, eqb, leb}
+use Rattle.sheets.specs.Words.{within, indicator}
+use Rattle.sheets.proofs.Counting.{sum}
 use Rattle.truth.specs.Rows.{rowsHas}
 
 -- an edge leads from s to s′, in a table that has the successors of node s at row s - 1
@@ -29,9 +30,22 @@ UpTo n t ys = (p s : ℕ) → p < t → T (rowsHas ys p s) → s ≤ n
 abbrev pub Transposed : ℕ → List ℕ → List ℕ → Type 0
 Transposed n next back = (s u : ℕ) → 1 ≤ u → u ≤ n → rowsHas back (u - 1) s ≡ (leb s n && (within 1 128 s && edgeIn next s u))
 
--- edges lead from nodes 1 to n to nodes 1 to n
-abbrev pub Stays : ℕ → List ℕ → Type 0
-Stays n next = (s u : ℕ) → 1 ≤ s → s ≤ n → T (edgeIn next s u) → u ≤ n
+-- s is among what row u - 1 of `back` has, for a u of the row
+abbrev pub Before : List ℕ → (ℕ → Bool) → ℕ → Type 0
+Before back row s = (u : ℕ) × T (row u) × T (rowsHas back (u - 1) s)
+
+-- row p of a table has no node
+abbrev pub NoRow : List ℕ → ℕ → Type 0
+NoRow ys p = (s : ℕ) → T (rowsHas ys p s) → ⊥
+
+-- no row below k has one
+abbrev pub NoRows : ℕ → List ℕ → Type 0
+NoRows k ys = (p : ℕ) → p < k → NoRow ys p
+
+-- `after` is `before` with row p emptied
+pub record Cleared (p : ℕ) (before after : List ℕ) : Type 0 where
+  pub size : length after ≡ length before
+  pub rows : (q s : ℕ) → rowsHas after q s ≡ (rowsHas before q s && not (eqb q p))
 
 -- ---- the pairs from which steps lead into a set
 
@@ -44,13 +58,16 @@ pub data Reaches (allow next : List ℕ) (t : ℕ) (xs : List ℕ) : ℕ → ℕ
 abbrev pub timeOf : List ℕ → ℕ → ℕ → ℕ
 timeOf times p s = getD times (128 * p + (s - 1)) 0
 
+-- a step leads from (p, s) to a pair of `set` with an earlier time
+abbrev pub Sooner : List ℕ → List ℕ → ℕ → List ℕ → List ℕ → ℕ → ℕ → Type 0
+Sooner allow next t set times p s = (p′ s′ : ℕ) × Steps allow next t p s p′ s′ × T (rowsHas set p′ s′) × (timeOf times p′ s′ < timeOf times p s)
+
 -- `ys` is the least set that has `xs` and every pair with a step into it; along some step from each other pair the time falls
 pub record Least (allow next : List ℕ) (t : ℕ) (xs ys times : List ℕ) : Type 0 where
   pub keeps : (p s : ℕ) → p < t → T (rowsHas xs p s) → T (rowsHas ys p s)
   pub reaches : (p s : ℕ) → p < t → T (rowsHas ys p s) → Reaches allow next t xs p s
   pub closed : (p s p′ s′ : ℕ) → p < t → Steps allow next t p s p′ s′ → T (rowsHas ys p′ s′) → T (rowsHas ys p s)
-  pub falls : (p s : ℕ) → p < t → T (rowsHas ys p s)
-      → T (rowsHas xs p s) ⊎ ((p′ s′ : ℕ) × Steps allow next t p s p′ s′ × T (rowsHas ys p′ s′) × (timeOf times p′ s′ < timeOf times p s))
+  pub falls : (p s : ℕ) → p < t → T (rowsHas ys p s) → T (rowsHas xs p s) ⊎ Sooner allow next t ys times p s
 
 -- ---- the largest set of pairs each of which has a step into it
 
@@ -71,3 +88,14 @@ pub record Greatest (allow next : List ℕ) (t : ℕ) (before after : List ℕ) 
   pub fewer : (p s : ℕ) → p < t → T (rowsHas after p s) → T (rowsHas before p s)
   pub largest : (W : ℕ → ℕ → Bool) → Lasts allow next t W → Inside t W before → Inside t W after
   pub lasts : Lasts allow next t (rowsHas after)
+
+-- ---- what falls while a set is made: each pair counts two in one set and one in another
+
+unfoldable pub weigh : Bool → Bool → ℕ
+unfolding indicator
+weigh x g = 2 * indicator x + indicator g
+
+-- what the pairs of positions below t count
+unfoldable pub weight : ℕ → (ℕ → ℕ → Bool) → (ℕ → ℕ → Bool) → ℕ
+unfolding sum weigh
+weight t x g = sum t (λ q. sum 128 (λ s. weigh (x (q - 1) s) (g (q - 1) s)))

@@ -1,10 +1,10 @@
 -- The path call: its questions, and what is handed over.
 use mathlib.Core.Path.{_≡_}
-use Prim.Native.Nat.{ℕ, zero, suc, _+_, _-_, _*_, min, _≤_, _<_}
+use Prim.Native.Nat.{ℕ, zero, suc, _-_, _*_, min, _≤_}
 use mathlib.Core.List.{List, [], _∷_, _++_}
 use mathlib.Core.Bool.{Bool, not, _&&_}
 use lib.ListN.{length}
-use lib.Dec.{T, leb}
+use lib.Dec.{leb}
 use Rattle.sheets.specs.Words.{word, within}
 use Rattle.sheets.specs.Questions.{Question, ask}
 use Rattle.sheets.specs.Structures.{Kripke, Automaton, Line, signal, negation, either, somePath, somePathNot, malformed}

@@ -22,9 +22,13 @@ unfolding same bit
 agrees zero w f = true
 agrees (suc v) w f = agrees v w f && same (bit w v) (f v)
 
--- the truth at node s of the line of variable i + 1 of line j, by the rows of the lines above
+-- the line of variable i + 1 of line j
+abbrev pub argument : List ℕ → ℕ → ℕ → ℕ
+argument R j i = lineWord lent R j (2 + i)
+
+-- its truth at node s, by the rows of the lines above
 abbrev pub argumentAt : List ℕ → List ℕ → ℕ → ℕ → ℕ → Bool
-argumentAt R rows j s i = rowsHas rows (lineWord lent R j (2 + i) - 1) s
+argumentAt R rows j s i = rowsHas rows (argument R j i - 1) s
 
 -- the state at position p of automaton x's chain
 abbrev pub stateAt : List ℕ → ℕ → ℕ → ℕ
@@ -61,7 +65,7 @@ pub record Added (states : List ℕ) (t target mask : ℕ) (before after : List 
 
 -- the lines of variables 1 to v of line j have rows
 abbrev pub Refers : List ℕ → List ℕ → ℕ → ℕ → Type 0
-Refers R rows j v = (i : ℕ) → i < v → (1 ≤ lineWord lent R j (2 + i)) × (2 * lineWord lent R j (2 + i) ≤ length rows)
+Refers R rows j v = (i : ℕ) → i < v → (1 ≤ argument R j i) × (2 * argument R j i ≤ length rows)
 
 -- `after` is `before` with, at rows 16 p to 16 p + t - 1, the rows of a table of valuations that the masks there have
 pub record Masked (table : List ℕ) (v : ℕ) (masks : List ℕ) (p t : ℕ) (before after : List ℕ) : Type 0 where

@@ -2,15 +2,13 @@
 -- to them have been looked at.
 use mathlib.Core.Path.{_≡_}
 use mathlib.Core.Logic.{_⊎_}
-use Prim.Native.Nat.{ℕ, _+_, _-_, _*_, _≤_, _<_}
+use Prim.Native.Nat.{ℕ, _+_, _*_, _<_}
 use mathlib.Core.List.{List}
 use mathlib.Core.Bool.{Bool, true, false, not, _&&_, _||_}
 use lib.ListN.{length}
 use lib.Dec.{T}
-use Rattle.sheets.specs.Words.{indicator}
-use Rattle.sheets.proofs.Counting.{sum}
 use Rattle.truth.specs.Rows.{rowsHas}
-use Rattle.truth.specs.Pairs.{Steps, UpTo, Transposed, Onward, Lasts, Inside}
+use Rattle.truth.specs.Pairs.{Steps, UpTo, Transposed, Before, Onward, Lasts, Inside, weight}
 
 -- some number below t
 abbrev pub SomeBelow : ℕ → (ℕ → Type 0) → Type 0
@@ -19,10 +17,6 @@ SomeBelow t P = (k : ℕ) × (k < t) × P k
 -- a node is in both rows
 abbrev pub Common : (ℕ → Bool) → (ℕ → Bool) → Type 0
 Common a b = (u : ℕ) × T (a u) × T (b u)
-
--- s is among what row u - 1 of `back` has, for a u of the row
-abbrev pub Before : List ℕ → (ℕ → Bool) → ℕ → Type 0
-Before back row s = (u : ℕ) × T (row u) × T (rowsHas back (u - 1) s)
 
 -- of the nodes of `look`, `out` has those from which no step from p leads into `xs`
 pub record Stuck (allow next : List ℕ) (t : ℕ) (xs : List ℕ) (p : ℕ) (look out : ℕ → Bool) : Type 0 where
@@ -52,40 +46,26 @@ abbrev pub OwingTo : List ℕ → List ℕ → ℕ → ℕ → (ℕ → Bool) �
 OwingTo allow next t p2 row xs gone p =
     (s : ℕ) → T (rowsHas xs p s) → T (rowsHas allow (16 * p + p2) s) → T (row s) → Owed allow next t xs gone p s
 
--- pairs went from `xs` to `gone`, none of a lasting set
-pub record Moved (allow next : List ℕ) (t : ℕ) (xs gone xs′ gone′ : List ℕ) : Type 0 where
+-- pairs went from `xs`, none of a lasting set, and only they came into `gone`
+pub record Shrunk (allow next : List ℕ) (t : ℕ) (xs gone xs′ gone′ : List ℕ) : Type 0 where
   pub size : length xs′ ≡ length xs
   pub size-gone : length gone′ ≡ length gone
   pub fewer : (p s : ℕ) → T (rowsHas xs′ p s) → T (rowsHas xs p s)
-  pub stays : (p s : ℕ) → T (rowsHas xs p s) → T (rowsHas xs′ p s) ⊎ T (rowsHas gone′ p s)
-  pub keeps : (p s : ℕ) → T (rowsHas gone p s) → T (rowsHas gone′ p s)
   pub gains : (p s : ℕ) → T (rowsHas gone′ p s) → T (rowsHas gone p s) ⊎ (T (rowsHas xs p s) × T (not (rowsHas xs′ p s)))
   pub largest : (W : ℕ → ℕ → Bool) → Lasts allow next t W → Inside t W xs → Inside t W xs′
 
--- a pair counts two in `xs` and one in `gone`
-unfoldable pub weigh : Bool → Bool → ℕ
-unfolding indicator
-weigh x g = 2 * indicator x + indicator g
-
--- what the pairs of positions below t count
-unfoldable pub weight : ℕ → List ℕ → List ℕ → ℕ
-unfolding sum weigh
-weight t xs gone = sum t (λ q. sum 128 (λ s. weigh (rowsHas xs (q - 1) s) (rowsHas gone (q - 1) s)))
+-- all that went came into `gone`, which keeps what it had
+pub record Moved (allow next : List ℕ) (t : ℕ) (xs gone xs′ gone′ : List ℕ) : Type 0 where
+  pub shrunk : Shrunk allow next t xs gone xs′ gone′
+  pub stays : (p s : ℕ) → T (rowsHas xs p s) → T (rowsHas xs′ p s) ⊎ T (rowsHas gone′ p s)
+  pub keeps : (p s : ℕ) → T (rowsHas gone p s) → T (rowsHas gone′ p s)
 
 -- rows of `gone` were emptied, and what had steps to them only went from `xs` to `gone`; r tells whether there was anything to do
 pub record Trimmed (allow next back : List ℕ) (t : ℕ) (xs gone xs′ gone′ : List ℕ) (r : Bool) : Type 0 where
-  pub size : length xs′ ≡ length xs
-  pub size-gone : length gone′ ≡ length gone
-  pub fewer : (p s : ℕ) → T (rowsHas xs′ p s) → T (rowsHas xs p s)
-  pub gains : (p s : ℕ) → T (rowsHas gone′ p s) → T (rowsHas gone p s) ⊎ (T (rowsHas xs p s) × T (not (rowsHas xs′ p s)))
-  pub largest : (W : ℕ → ℕ → Bool) → Lasts allow next t W → Inside t W xs → Inside t W xs′
+  pub shrunk : Shrunk allow next t xs gone xs′ gone′
   pub owing : (n : ℕ) → Transposed n next back → UpTo n t xs → UpTo n t gone → Owing allow next t xs gone → Owing allow next t xs′ gone′
-  pub less : r ≡ true → weight t xs′ gone′ < weight t xs gone
+  pub less : r ≡ true → weight t (rowsHas xs′) (rowsHas gone′) < weight t (rowsHas xs) (rowsHas gone)
   pub still : r ≡ false → (p s : ℕ) → T (rowsHas gone′ p s) → T (rowsHas gone p s)
-
--- row p of a table has no node
-abbrev pub NoRow : List ℕ → ℕ → Type 0
-NoRow ys p = (s : ℕ) → T (rowsHas ys p s) → ⊥
 
 -- at s the automaton may go from p to a position whose row has a node that s is before
 abbrev pub Ahead : List ℕ → List ℕ → ℕ → List ℕ → ℕ → ℕ → Type 0

@@ -5,7 +5,7 @@ use mathlib.Core.List.{List}
 use lib.ListN.{getD}
 use lib.Dec.{T}
 use Rattle.truth.specs.Rows.{rowsHas}
-use Rattle.truth.specs.Pairs.{Steps, UpTo, Stays, Least, Lasts}
+use Rattle.truth.specs.Pairs.{Steps, UpTo, Least, Lasts}
 
 -- Places 1 to `len`, with the pair at place i; from `back` on all pairs are in `xs`, and no pair is there twice.
 pub record Looped (allow next : List ℕ) (t n : ℕ) (xs : List ℕ) (s : ℕ) (node position : ℕ → ℕ) (len back : ℕ) : Type 0 where
@@ -20,12 +20,11 @@ pub record Looped (allow next : List ℕ) (t n : ℕ) (xs : List ℕ) (s : ℕ) 
   pub once : (i k : ℕ) → 1 ≤ i → i < k → k ≤ len → node i ≡ node k → position i ≡ position k → ⊥
   pub fits : len ≤ n * t
 
--- the tables that a walk goes by: a lasting set, the pairs that reach it with their times, edges that stay among the nodes 1 to n
+-- the tables that a walk goes by, of nodes 1 to n: a lasting set, and the pairs that reach it with their times
 pub record Walkable (allow next : List ℕ) (t n : ℕ) (xs ys times : List ℕ) (s : ℕ) : Type 0 where
   pub few : t ≤ 16
   pub nodes : n ≤ 128
   pub some : 1 ≤ t
-  pub stays : Stays n next
   pub allow-up : UpTo n 256 allow
   pub xs-up : UpTo n t xs
   pub lasts : Lasts allow next t (rowsHas xs)

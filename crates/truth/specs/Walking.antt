@@ -10,10 +10,6 @@ use Rattle.truth.specs.Pairs.{edgeIn, Steps, timeOf}
 abbrev pub entered : List ℕ → List ℕ → List ℕ → ℕ → ℕ → ℕ → ℕ → Bool
 entered allow next set p u k v = rowsHas allow (16 * p + k) u && (edgeIn next u v && rowsHas set k v)
 
--- a step leads from (p, u) to a pair of `set` with an earlier time
-abbrev pub Sooner : List ℕ → List ℕ → ℕ → List ℕ → List ℕ → ℕ → ℕ → Type 0
-Sooner allow next t set times p u = (p′ u′ : ℕ) × Steps allow next t p u p′ u′ × T (rowsHas set p′ u′) × (timeOf times p′ u′ < timeOf times p u)
-
 -- (p′, u′) is the pair after (p, u): one of `xs` after one of `xs`, and otherwise one of `ys` with an earlier time
 pub record Advances (allow next : List ℕ) (t : ℕ) (xs ys times : List ℕ) (p u p′ u′ : ℕ) : Type 0 where
   pub steps : Steps allow next t p u p′ u′

@@ -1,14 +1,13 @@
 // The pairs from which steps lead into a set: the set grows by what its newest pairs are stepped to from, until nothing is new.
 ghost use mathlib.Core.Path.{_≡_};
-ghost use mathlib.Core.Logic.{_↔_};
 ghost use mathlib.Core.Bool.{_&&_};
 ghost use Prim.Native.Nat.{ℕ, _+_, _-_, _<_, _≤_};
 ghost use mathlib.Core.List.{List};
 ghost use lib.ListN.{length};
-ghost use lib.Dec.{T, eqb};
-ghost use Rattle.truth.specs.Rows.{rowHas, rowsHas};
-ghost use Rattle.truth.specs.Pairs.{UpTo, Transposed, Least};
-ghost use Rattle.truth.specs.Growing.{Marked, Spread, enters, Turn, left, Turns, NoneNew};
+ghost use lib.Dec.{eqb};
+ghost use Rattle.truth.specs.Rows.{rowHas};
+ghost use Rattle.truth.specs.Pairs.{UpTo, Transposed, NoRows, Least};
+ghost use Rattle.truth.specs.Growing.{Marked, Spread, enters, Turn, left, Turns};
 use crate::rows::Row;
 use crate::structure::before;
 use crate::tables::load;
@@ -96,7 +95,7 @@ fn grow_round(
 ) -> u16
     requires { ⌜ (t ≤ 16) × (time + left t (now ys) (now new) ≤ 65535) × (length (now ys) ≡ 512) × (length (now new) ≡ 512) × (length (now times) ≡ 2048) ⌝ }
     ensures turns { λ r. ⌜ Turns (now (allow .entry)) (now (back .entry)) t time r (now (ys .entry)) (now (new .entry)) (now (times .entry)) (now (ys .exit)) (now (new .exit)) (now (times .exit)) ⌝ }
-    ensures done { λ r. ⌜ (r ≡ time → NoneNew t (now (new .exit))) ⌝ }
+    ensures done { λ r. ⌜ (r ≡ time → NoRows t (now (new .exit))) ⌝ }
 {
     let mut at = time;
     let mut k = 0;
@@ -115,7 +114,7 @@ fn grow_round(
 // t positions, of which `xs` has the first pairs.
 pub fn grow(allow: &[u64; 512], back: &[u64; 512], t: usize, xs: [u64; 512]) -> Growth
     requires { ⌜ t ≤ 16 ⌝ }
-    ensures { λ r. ⌜ ((n : ℕ) (next : List ℕ) → n ≤ 128 → Transposed n next (now (back .entry)) → UpTo n 256 (now (allow .entry)) → UpTo n t xs → Least (now (allow .entry)) next t xs (r .rows) (r .times)) ⌝ }
+    ensures { λ r. ⌜ ((n : ℕ) (next : List ℕ) → Transposed n next (now (back .entry)) → UpTo n 256 (now (allow .entry)) → UpTo n t xs → Least (now (allow .entry)) next t xs (r .rows) (r .times)) ⌝ }
 {
     let mut ys = xs;
     let mut new = xs;

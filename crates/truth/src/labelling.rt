@@ -1,13 +1,12 @@
 // Labelling: the rows of a whole rule sheet on a machine, whether the rule is kept, and the count and percent of its true nodes.
 ghost use mathlib.Core.Path.{_≡_};
 ghost use mathlib.Core.Logic.{_↔_};
-ghost use Prim.Native.Nat.{ℕ, _+_, _-_, _*_, _<_, _≤_};
-ghost use lib.ListN.{length, getD};
+ghost use Prim.Native.Nat.{_+_, _*_, _<_, _≤_};
+ghost use lib.ListN.{length};
 ghost use lib.Dec.{T};
 ghost use Rattle.sheets.specs.Questions.{firstNo};
 ghost use Rattle.sheets.specs.Machine as Machine;
 ghost use Rattle.sheets.specs.Rules as Rules;
-ghost use Rattle.truth.specs.Truth.{Keeps};
 ghost use Rattle.truth.specs.Rows.{rowHas};
 ghost use Rattle.truth.specs.Labelling as Labelling;
 ghost use Rattle.truth.specs.Answers.{LabelAnswer};

@@ -1,14 +1,14 @@
 // The row of one line, from whatever rows stand above it.
 ghost use mathlib.Core.Path.{_≡_};
 ghost use mathlib.Core.Bool.{not, _&&_, _||_};
-ghost use Prim.Native.Nat.{ℕ, _+_, _-_, _*_, _<_, _≤_};
-ghost use lib.ListN.{length, getD};
+ghost use Prim.Native.Nat.{ℕ, _-_, _*_, _≤_};
+ghost use lib.ListN.{length};
 ghost use lib.Dec.{leb};
 ghost use Rattle.sheets.specs.Words.{within};
 ghost use Rattle.sheets.specs.Machine as Machine;
 ghost use Rattle.sheets.specs.Rules as Rules;
 ghost use Rattle.truth.specs.Rows.{rowHas, rowsHas};
-ghost use Rattle.truth.specs.OneLine.{Ready, LineRow, PathReady, PathRow, SolvedLine};
+ghost use Rattle.truth.specs.OneLine.{LineReady, LineRow, PathReady, PathRow, SolvedLine};
 use crate::growth::grow;
 use crate::product;
 use crate::rows::Row;
@@ -107,7 +107,7 @@ pub fn row_of_line(
     rows: &[u64],
     j: u16,
 ) -> Row
-    requires { ⌜ (Ready (now m) (now r) (now next) (now back)) × ((1 ≤ j) × ((j ≤ Rules.lines (now r)) × (2 * (j - 1) ≤ length (now rows)))) ⌝ }
+    requires { ⌜ LineReady (now m) (now r) (now next) (now back) (now rows) j ⌝ }
     ensures { λ row. ⌜ LineRow (now (m .entry)) (now (r .entry)) (now (rows .entry)) j (rowHas row) ⌝ }
 {
     let decoded = decode(r, j);

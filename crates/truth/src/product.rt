@@ -152,7 +152,7 @@ fn set_masks(table: &[u64; 512], v: u16, masks: [u16; 16], p: u16, t: u16, out: 
 
 // Where the automaton x of line j may go from position p to position p2, at row 16 p + p2, among t positions and the nodes `all`.
 pub fn allow_table(r: &[u16], rows: &[u64], all: Row, j: u16, x: u16, t: u16) -> [u64; 512]
-    requires { ⌜ (t ≤ 16) × (Rules.variables (now r) x ≤ 4) × (t ≡ length (Rules.statesOf (now r) x)) × ((i : ℕ) → i < Rules.variables (now r) x → (1 ≤ Rules.lineWord Rules.lent (now r) j (2 + i)) × (2 * Rules.lineWord Rules.lent (now r) j (2 + i) ≤ length (now rows))) ⌝ }
+    requires { ⌜ (t ≤ 16) × (Rules.variables (now r) x ≤ 4) × (t ≡ length (Rules.statesOf (now r) x)) × Refers (now r) (now rows) j (Rules.variables (now r) x) ⌝ }
     ensures { λ a. ⌜ Allowed (now (r .entry)) (now (rows .entry)) (rowHas all) j x t a ⌝ }
 {
     let v = rules::automaton_word(r, x, 0);

@@ -1,8 +1,8 @@
 // A truth row: a set of nodes as a value of two words. Union, complement and the like hand a new row back.
 ghost use mathlib.Core.Path.{_≡_};
-ghost use mathlib.Core.Bool.{Bool, true, false, not, _&&_, _||_};
-ghost use Prim.Native.Nat.{ℕ, _+_, _-_, _*_, _<_, _≤_};
-ghost use lib.Dec.{T, eqb, leb};
+ghost use mathlib.Core.Bool.{false, not, _&&_, _||_};
+ghost use Prim.Native.Nat.{ℕ, _+_, _-_};
+ghost use lib.Dec.{eqb};
 ghost use Rattle.sheets.specs.Words.{within, each};
 ghost use Rattle.truth.specs.Rows.{rowHas, tally, First};
 

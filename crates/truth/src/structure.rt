@@ -1,12 +1,13 @@
 // The machine's structure in rows, read from the lent words: the nodes with an edge into a row, the nodes of a signal, the start nodes.
 ghost use mathlib.Core.Path.{_≡_};
 ghost use mathlib.Core.Logic.{_↔_};
-ghost use mathlib.Core.Bool.{Bool, true, false, not, _&&_, _||_};
-ghost use Prim.Native.Nat.{ℕ, _+_, _-_, _*_, _<_, _≤_};
+ghost use mathlib.Core.Bool.{true, false, _&&_};
+ghost use Prim.Native.Nat.{ℕ, _+_, _-_, _<_, _≤_};
 ghost use lib.Dec.{T, eqb, leb};
 ghost use Rattle.sheets.specs.Words.{within};
 ghost use Rattle.sheets.specs.Machine as Machine;
 ghost use Rattle.truth.specs.Rows.{rowHas, rowsHas, leadsInto};
+ghost use Rattle.truth.specs.Pairs.{Before};
 use crate::rows::Row;
 use crate::tables::load;
 use crate::tables::store;
@@ -174,7 +175,7 @@ pub fn predecessors(next: &[u64; 512], n: u16) -> [u64; 512]
 
 // The nodes of which one of the row is a successor, where `back` has the predecessors of node u at row u - 1.
 pub fn before(back: &[u64; 512], from: Row) -> Row
-    ensures { λ r. ⌜ ((s : ℕ) → T (rowHas r s) ↔ ((u : ℕ) × T (rowHas from u) × T (rowsHas (now (back .entry)) (u - 1) s))) ⌝ }
+    ensures { λ r. ⌜ ((s : ℕ) → T (rowHas r s) ↔ Before (now (back .entry)) (rowHas from) s) ⌝ }
 {
     let mut out = Row::empty();
     let mut left = from;

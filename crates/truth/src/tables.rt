@@ -1,6 +1,6 @@
 // Tables of rows in flat arrays of 256 rows, two words a row, and the rows of lines in the lent space, lines from 1.
 ghost use mathlib.Core.Path.{_≡_};
-ghost use Prim.Native.Nat.{ℕ, _+_, _-_, _*_, _<_, _≤_};
+ghost use Prim.Native.Nat.{_+_, _-_, _*_, _<_, _≤_};
 ghost use lib.ListN.{length, getD, set};
 use crate::rows::Row;
 

@@ -7,8 +7,8 @@ ghost use mathlib.Core.List.{List};
 ghost use lib.ListN.{length};
 ghost use lib.Dec.{T};
 ghost use Rattle.truth.specs.Rows.{rowHas, rowsHas};
-ghost use Rattle.truth.specs.Pairs.{UpTo, Transposed, Stays, Onward, Greatest};
-ghost use Rattle.truth.specs.Trimmed.{SomeBelow, Common, Before, Stuck, Taken, OwingTo, Moved, Trimmed, NoRow, Started};
+ghost use Rattle.truth.specs.Pairs.{UpTo, Transposed, Before, NoRow, NoRows, Onward, Greatest};
+ghost use Rattle.truth.specs.Trimmed.{SomeBelow, Common, Stuck, Taken, OwingTo, Moved, Trimmed, Started};
 use crate::rows::Row;
 use crate::structure::before;
 use crate::tables::load;
@@ -174,7 +174,7 @@ fn trim_round(
 ) -> bool
     requires { ⌜ (t ≤ 16) × (length (now xs) ≡ 512) × (length (now gone) ≡ 512) ⌝ }
     ensures trimmed { λ r. ⌜ Trimmed (now (allow .entry)) (now (next .entry)) (now (back .entry)) t (now (xs .entry)) (now (gone .entry)) (now (xs .exit)) (now (gone .exit)) r ⌝ }
-    ensures none { λ r. ⌜ (r ≡ false → (p : ℕ) → p < t → NoRow (now (gone .exit)) p) ⌝ }
+    ensures none { λ r. ⌜ (r ≡ false → NoRows t (now (gone .exit))) ⌝ }
 {
     let mut changed = false;
     let mut k = 0;
@@ -247,7 +247,7 @@ fn trim_first(
     xs: &mut [u64; 512],
     gone: &mut [u64; 512],
 )
-    requires { ⌜ (t ≤ 16) × (length (now xs) ≡ 512) × (length (now gone) ≡ 512) × ((p s : ℕ) → T (rowsHas (now gone) p s) → ⊥) ⌝ }
+    requires { ⌜ (t ≤ 16) × (length (now xs) ≡ 512) × (length (now gone) ≡ 512) × ((p : ℕ) → NoRow (now gone) p) ⌝ }
     ensures { λ r. ⌜ Started (now (allow .entry)) (now (back .entry)) t t (now (xs .entry)) (now (xs .exit)) (now (gone .exit)) ⌝ }
     ensures { λ r. ⌜ length (now (gone .exit)) ≡ 512 ⌝ }
 {
@@ -269,7 +269,7 @@ pub fn trim(
     xs: [u64; 512],
 ) -> [u64; 512]
     requires { ⌜ t ≤ 16 ⌝ }
-    ensures { λ r. ⌜ ((n : ℕ) → n ≤ 128 → Transposed n (now (next .entry)) (now (back .entry)) → Stays n (now (next .entry)) → UpTo n 256 (now (allow .entry)) → UpTo n t xs → Greatest (now (allow .entry)) (now (next .entry)) t xs r) ⌝ }
+    ensures { λ r. ⌜ ((n : ℕ) → Transposed n (now (next .entry)) (now (back .entry)) → UpTo n t xs → Greatest (now (allow .entry)) (now (next .entry)) t xs r) ⌝ }
 {
     let mut rows = xs;
     let mut gone = [0u64; 512];

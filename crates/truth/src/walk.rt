@@ -4,9 +4,9 @@ ghost use mathlib.Core.Bool.{_&&_};
 ghost use Prim.Native.Nat.{ℕ, _+_, _-_, _*_, _<_, _≤_};
 ghost use lib.Dec.{T, ltb};
 ghost use Rattle.truth.specs.Rows.{rowHas, rowsHas, First};
-ghost use Rattle.truth.specs.Pairs.{Steps, Onward, timeOf};
+ghost use Rattle.truth.specs.Pairs.{Steps, Onward, Sooner, timeOf};
 ghost use Rattle.truth.specs.Walked.{Looped, Walkable, placed};
-ghost use Rattle.truth.specs.Walking.{entered, Sooner, Advances};
+ghost use Rattle.truth.specs.Walking.{entered, Advances};
 use crate::rows::Row;
 use crate::tables::load;
 

@@ -2,7 +2,7 @@
 use borrow.Author.Needs.{needs}
 use mathlib.Core.Path.{refl}
 use Rattle.truth.specs.Rows.{rowHas}
-use Rattle.truth.proofs.TableLoops.{loaded}
+use Rattle.truth.proofs.tables.TableLaws.{loaded}
 use Rattle.comparison.proofs.BlockTables.{meets-first, meets-second}
 use Rattle.comparison.proofs.blocks.block_meets.Statement.{statement}
 use Rattle.comparison.proofs.blocks.block_meets.Tie as tie

@@ -5,7 +5,7 @@ use Prim.Native.Nat.{ℕ}
 use native.Mathlib.Omega.{arith}
 use mathlib.Core.Bool.{Bool, not, _&&_}
 use Rattle.truth.specs.Rows.{rowHas, rowsHas}
-use Rattle.truth.proofs.TableLoops.{loaded}
+use Rattle.truth.proofs.tables.TableLaws.{loaded}
 use Rattle.comparison.proofs.BlockTables.{parted-rows}
 use Rattle.comparison.proofs.blocks.part.Statement.{statement}
 use Rattle.comparison.proofs.blocks.part.Tie as tie

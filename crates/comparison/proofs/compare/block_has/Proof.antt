@@ -2,7 +2,7 @@
 use mathlib.Core.Path.{refl, _∙_}
 use Rattle.truth.specs.Rows.{rowHas, rowsHas}
 use Rattle.comparison.proofs.StartBlocks.{same-test}
-use Rattle.truth.proofs.TableLoops.{loaded}
+use Rattle.truth.proofs.tables.TableLaws.{loaded}
 use borrow.Author.Needs.{needs}
 use Rattle.comparison.proofs.compare.block_has.Statement.{statement}
 use Rattle.comparison.proofs.compare.block_has.Tie as tie

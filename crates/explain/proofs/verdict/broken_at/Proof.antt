@@ -1,7 +1,7 @@
 -- `broken_at` meets its contract: labelling accepts both sheets, so the last row has the truth of the rule.
 use mathlib.Core.Path.{sym}
 use Rattle.explain.specs.Verdicts.{Labelable}
-use Rattle.truth.proofs.BreakNodes.{last-in, first-break}
+use Rattle.truth.proofs.breaks.BreakNodes.{last-in, first-break}
 use borrow.Author.Needs.{needs}
 use Rattle.explain.proofs.verdict.broken_at.Statement.{statement}
 use Rattle.explain.proofs.verdict.broken_at.Tie as tie

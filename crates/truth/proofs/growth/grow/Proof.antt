@@ -2,10 +2,13 @@
 use borrow.Author.Needs.{needs}
 use mathlib.Core.Path.{_≡_, _∙_}
 use native.Mathlib.Omega.{arith}
+use mathlib.Core.Bool.{not}
 use lib.ListN.{length}
+use Rattle.truth.specs.Rows.{rowsHas}
 use Rattle.truth.specs.Growing.{left, Turns}
-use Rattle.truth.proofs.GrowthMeasure.{left-most}
-use Rattle.truth.proofs.GrowthRounds.{turns-none, turns-more, no-times, growing-first, growing-last}
+use Rattle.truth.proofs.tables.TableLaws.{zero-word}
+use Rattle.truth.proofs.PairWeights.{weight-most}
+use Rattle.truth.proofs.growth.GrowthRounds.{turns-none, turns-more, growing-first, growing-last}
 use Rattle.truth.proofs.growth.grow.Statement.{statement}
 use Rattle.truth.proofs.growth.grow.Tie as tie
 
@@ -16,21 +19,21 @@ abbrev μ-loop : tie.MeasureT-loop
 μ-loop allow back t ys₀ new₀ times₀ time₀ ys new times time = left t ys new
 
 loop-holds : tie.Need-loop-holds Inv-loop μ-loop
-loop-holds c = turns-none _ _ _ _ _ _ _
+loop-holds c = turns-none
 
 grow-round-requires : tie.Need-grow-round-requires Inv-loop μ-loop
 grow-round-requires c κs =
     let a = c .before .before .before .before .args in
     let g = c .before .before .before .loop .inv in
-    let most = left-most (a .t) (a .xs) (a .xs) (omega arith) in
+    let most = weight-most (a .t) (λ p s. not (rowsHas (a .xs) p s)) (rowsHas (a .xs)) (omega arith) in
     let long : length (a .xs) ≡ 512 = search needs in
     (omega arith, omega (arith, g .fewer, most), g .ys-size ∙ long, g .new-size ∙ long, g .times-size)
 
 returns : tie.Need-returns Inv-loop μ-loop
-returns c n next small transposed upTo within =
+returns c n next transposed upTo within =
     let a = c .before .before .before .before .before .before .args in
-    let g = turns-more _ _ _ _ _ _ _ _ _ _ _ _ _ _ _ (c .before .before .before .before .before .loop .inv) (c .before .grow-round .ensures .0) in
-    growing-last _ _ _ _ _ _ _ _ _ (g .grows n next (a .xs) transposed upTo (growing-first _ _ _ _ _ _ (no-times 2048) within)) (c .before .grow-round .ensures .1 (c .if1 .taken))
+    let g = turns-more (c .before .before .before .before .before .loop .inv) (c .before .grow-round .ensures .0) in
+    growing-last (g .grows n next (a .xs) transposed upTo (growing-first _ (zero-word 2048) within)) (c .before .grow-round .ensures .1 (c .if1 .taken))
 
 loop-less : tie.Need-loop-less Inv-loop μ-loop
 loop-less c =
@@ -38,7 +41,7 @@ loop-less c =
     omega (arith, g .later, g .fewer, c .if1 .left)
 
 loop-again : tie.Need-loop-again Inv-loop μ-loop
-loop-again c = turns-more _ _ _ _ _ _ _ _ _ _ _ _ _ _ _ (c .before .before .before .before .before .loop .inv) (c .before .grow-round .ensures .0)
+loop-again c = turns-more (c .before .before .before .before .before .loop .inv) (c .before .grow-round .ensures .0)
 
 pub grow-spec : {M : Type 1} → statement M
 grow-spec =

@@ -6,57 +6,64 @@ use mathlib.Core.Bool.{not, _&&_}
 use lib.ListN.{length}
 use Rattle.truth.specs.Rows.{rowHas, rowsHas}
 use Rattle.truth.specs.Growing.{enters}
-use Rattle.truth.proofs.TableLaws.{stored-length}
-use Rattle.truth.proofs.RowAdditions.{stored-more, spread-one, spread-empty}
-use borrow.Author.Needs.{needs}
+use Rattle.truth.proofs.tables.TableLaws.{stored-length, stored-more}
+use Rattle.truth.proofs.growth.RowAdditions.{spread-one, spread-empty}
 use Rattle.truth.proofs.growth.grow_one.Statement.{statement}
 use Rattle.truth.proofs.growth.grow_one.Tie as tie
 
+abbrev start : tie.After-difference → tie.Start
+start c = c .before .before .before .before .before
+
+-- the nodes at p that step to p2 and are not met
+extra : (c : tie.After-difference) (s : ℕ)
+    → rowHas (c .difference .result) s
+    ≡ (enters (start c .args .allow .now) (start c .args .p2) (rowHas (start c .args .prev)) (start c .args .p) s
+    && not (rowsHas (start c .args .ys .now) (start c .args .p) s))
+extra c s =
+    let may = c .before .before .load2 .ensures in
+    let here = c .before .before .before .load .ensures in
+    rw (c .before .intersection .ensures s, may .0, may .1, here .0, here .1) at (c .difference .ensures s)
+
 load-requires : tie.Need-load-requires
-load-requires c κs = search needs
+load-requires c κs = omega arith
 
 mul-load : tie.Need-mul-load
-mul-load c = search needs
+mul-load c = omega arith
 
 add-load : tie.Need-add-load
-add-load c = search needs
+add-load c = omega arith
 
 load-requires-2 : tie.Need-load-requires-2
-load-requires-2 c κs = search needs
+load-requires-2 c κs = omega arith
 
 intersection-requires : tie.Need-intersection-requires
-intersection-requires c κs = search needs
+intersection-requires c κs = omega arith
 
 difference-requires : tie.Need-difference-requires
-difference-requires c κs = search needs
+difference-requires c κs = omega arith
 
 is-empty-requires : tie.Need-is-empty-requires
-is-empty-requires c κs = search needs
+is-empty-requires c κs = omega arith
 
 returns : tie.Need-returns
 returns c =
-    let d = c .before .before in
-    let a = d .before .before .before .before .before .args in
-    let may = d .before .before .load2 .ensures in
-    let here = d .before .before .before .load .ensures in
-    let x : (s : ℕ) → rowHas (d .difference .result) s ≡ (enters (a .allow .now) (a .p2) (rowHas (a .prev)) (a .p) s && not (rowsHas (a .ys .now) (a .p) s)) =
-    λ s. rw (d .before .intersection .ensures s, may .0, may .1, here .0, here .1) at (d .difference .ensures s) in
-    spread-empty (enters (a .allow .now) (a .p2) (rowHas (a .prev)) (a .p)) _ _ _ _ _ _ _ x (sym (c .if1 .taken) ∙ c .before .is-empty .ensures)
+    let a = start (c .before .before) .args in
+    spread-empty (enters (a .allow .now) (a .p2) (rowHas (a .prev)) (a .p)) _ _ _ _ _ _ _ (extra (c .before .before)) (sym (c .if1 .taken) ∙ c .before .is-empty .ensures)
 
 union-requires : tie.Need-union-requires
-union-requires c κs = search needs
+union-requires c κs = omega arith
 
 store-requires : tie.Need-store-requires
-store-requires c κs = search needs
+store-requires c κs = omega arith
 
 load-requires-3 : tie.Need-load-requires-3
-load-requires-3 c κs = search needs
+load-requires-3 c κs = omega arith
 
 union-requires-2 : tie.Need-union-requires-2
-union-requires-2 c κs = search needs
+union-requires-2 c κs = omega arith
 
 store-requires-2 : tie.Need-store-requires-2
-store-requires-2 c κs = search needs
+store-requires-2 c κs = omega arith
 
 mark-requires : tie.Need-mark-requires
 mark-requires c κs = let pre = c .before .before .before .before .before .before .before .before .before .before .before .before .before .before .before .before .pre in omega (arith, pre .0, pre .4)
@@ -64,17 +71,14 @@ mark-requires c κs = let pre = c .before .before .before .before .before .befor
 returns-2 : tie.Need-returns-2
 returns-2 c =
     let d = c .before .before .before .before .before .before .before .before .before .before .before .before in
-    let a = d .before .before .before .before .before .args in
-    let may = d .before .before .load2 .ensures in
+    let a = start d .args in
     let here = d .before .before .before .load .ensures in
-    let x : (s : ℕ) → rowHas (d .difference .result) s ≡ (enters (a .allow .now) (a .p2) (rowHas (a .prev)) (a .p) s && not (rowsHas (a .ys .now) (a .p) s)) =
-    λ s. rw (d .before .intersection .ensures s, may .0, may .1, here .0, here .1) at (d .difference .ensures s) in
     let long : 2 * a .p + 1 < length (a .ys .now) = omega arith in
     let long′ : 2 * a .p + 1 < length (a .new .now) = omega arith in
     let e = c .before .before .before .before .before .before .before .store .ensures in
     let f = c .before .before .store2 .ensures in
     let new = c .before .before .before .before .before .load3 .ensures in
-    spread-one (enters (a .allow .now) (a .p2) (rowHas (a .prev)) (a .p)) _ _ _ _ _ _ _ _ _ x
+    spread-one (enters (a .allow .now) (a .p2) (rowHas (a .prev)) (a .p)) _ _ _ _ _ _ _ _ _ (extra d)
     (rw e (stored-length (a .ys .now) (a .p) _ _ long))
     (rw f (stored-length (a .new .now) (a .p) _ _ long′))
     (rw e (stored-more (a .ys .now) (a .p) _ _ long (rowHas (d .difference .result)) (λ s. rw (here .0, here .1) at (c .before .before .before .before .before .before .before .before .union .ensures s))))

@@ -1,31 +1,43 @@
 -- `grow_round` meets its contract. The invariant: turns led here, and where there was none the positions passed have nothing new. The measure is how many positions are left.
-use borrow.Author.Needs.{needs}
 use borrow.Author.Tests.{not-true, not-false}
-use mathlib.Core.Path.{_≡_, _∙_}
+use borrow.Author.Count.{below-more}
+use mathlib.Core.Path.{_≡_, sym, _∙_}
 use Prim.Native.Nat.{_-_, _≤_}
+use mathlib.Core.Bool.{not}
+use Rattle.sheets.specs.Words.{each}
 use native.Mathlib.Omega.{arith}
-use Rattle.truth.specs.Growing.{Turns, NoneNew}
-use Rattle.truth.proofs.GrowthRounds.{turns-none, turns-one, turns-more, row-tested, none-first, none-next}
+use Rattle.truth.specs.Rows.{rowsHas}
+use Rattle.truth.specs.Pairs.{NoRow, NoRows}
+use Rattle.truth.specs.Growing.{Turns}
+use Rattle.truth.proofs.rows.RowLaws.{held-in, none-passes}
+use Rattle.truth.proofs.growth.GrowthRounds.{turns-none, turns-one, turns-more}
 use Rattle.truth.proofs.growth.grow_round.Statement.{statement}
 use Rattle.truth.proofs.growth.grow_round.Tie as tie
 
 abbrev Inv-loop : tie.InvT-loop
-Inv-loop allow back t time ys₀ new₀ times₀ at₀ k₀ ys new times at k = (k ≤ t) × Turns allow back t time at ys₀ new₀ times₀ ys new times × (at ≡ time → NoneNew k new)
+Inv-loop allow back t time ys₀ new₀ times₀ at₀ k₀ ys new times at k = (k ≤ t) × Turns allow back t time at ys₀ new₀ times₀ ys new times × (at ≡ time → NoRows k new)
 
 abbrev μ-loop : tie.MeasureT-loop
 μ-loop allow back t time ys₀ new₀ times₀ at₀ k₀ ys new times at k = t - k
 
+abbrev at-loop : tie.After-is-empty Inv-loop μ-loop → tie.At-loop Inv-loop μ-loop
+at-loop c = c .before .before .before .before
+
+-- whether row k of the new pairs is empty
+tested : (c : tie.After-is-empty Inv-loop μ-loop) → each 128 (λ s. not (rowsHas (at-loop c .loop .new) (at-loop c .loop .k) s)) ≡ c .is-empty .result
+tested c = let row = c .before .load .ensures in rw (row .0, row .1) at (sym (c .is-empty .ensures))
+
 loop-holds : tie.Need-loop-holds Inv-loop μ-loop
-loop-holds c = (omega arith, turns-none _ _ _ _ _ _ _, λ e. none-first (c .args .new .now))
+loop-holds c = (omega arith, turns-none, λ e p l. absurd (omega arith))
 
 add-k : tie.Need-add-k Inv-loop μ-loop
-add-k c = search needs
+add-k c = omega arith
 
 load-requires : tie.Need-load-requires Inv-loop μ-loop
-load-requires c κs = search needs
+load-requires c κs = omega arith
 
 is-empty-requires : tie.Need-is-empty-requires Inv-loop μ-loop
-is-empty-requires c κs = search needs
+is-empty-requires c κs = omega arith
 
 grow-from-requires : tie.Need-grow-from-requires Inv-loop μ-loop
 grow-from-requires c κs =
@@ -36,39 +48,33 @@ grow-from-requires c κs =
 add-at : tie.Need-add-at Inv-loop μ-loop
 add-at c =
     let l = c .before .before .before .before .before .before .before .before .before .loop in
-    let row = c .before .before .before .before .before .before .load .ensures in
-    let empty = c .before .before .before .before .before .is-empty in
-    let some = row-tested (l .new) (l .k) _ _ _ (row .0) (row .1) (empty .ensures) ∙ not-true (empty .result) (c .before .before .before .before .if1 .taken) in
-    let turn = turns-one _ _ _ _ _ _ _ _ _ _ _ (omega arith) (omega arith) (c .grow-from .ensures) some in
+    let some = tested (c .before .before .before .before .before) ∙ not-true _ (c .before .before .before .before .if1 .taken) in
+    let turn = turns-one (omega arith) (omega arith) (c .grow-from .ensures) some in
     omega (arith, turn .fewer, l .inv .1 .fewer, c .before .before .before .before .before .before .before .before .before .before .pre .1)
 
 loop-less : tie.Need-loop-less Inv-loop μ-loop
-loop-less c = search needs
+loop-less c = omega arith
 
 loop-again : tie.Need-loop-again Inv-loop μ-loop
 loop-again c =
     let l = c .before .before .before .before .before .before .before .before .before .loop in
-    let row = c .before .before .before .before .before .before .load .ensures in
-    let empty = c .before .before .before .before .before .is-empty in
-    let some = row-tested (l .new) (l .k) _ _ _ (row .0) (row .1) (empty .ensures) ∙ not-true (empty .result) (c .before .before .before .before .if1 .taken) in
-    let turn = turns-one _ _ _ _ _ _ _ _ _ _ _ (omega arith) (omega arith) (c .grow-from .ensures) some in
-    (omega arith, turns-more _ _ _ _ _ _ _ _ _ _ _ _ _ _ _ (l .inv .1) turn, λ e. absurd (omega (arith, l .inv .1 .later)))
+    let some = tested (c .before .before .before .before .before) ∙ not-true _ (c .before .before .before .before .if1 .taken) in
+    let turn = turns-one (omega arith) (omega arith) (c .grow-from .ensures) some in
+    (omega arith, turns-more (l .inv .1) turn, λ e. absurd (omega (arith, l .inv .1 .later)))
 
 loop-less-2 : tie.Need-loop-less-2 Inv-loop μ-loop
-loop-less-2 c = search needs
+loop-less-2 c = omega arith
 
 loop-again-2 : tie.Need-loop-again-2 Inv-loop μ-loop
 loop-again-2 c =
     let l = c .before .before .before .before .before .loop in
-    let row = c .before .before .load .ensures in
-    let empty = c .before .is-empty in
-    let none = row-tested (l .new) (l .k) _ _ _ (row .0) (row .1) (empty .ensures) ∙ not-false (empty .result) (c .if1 .left) in
-    (omega arith, l .inv .1, λ e. none-next (l .k) (l .new) (l .inv .2 e) none)
+    let none = tested (c .before) ∙ not-false _ (c .if1 .left) in
+    (omega arith, l .inv .1, λ e. below-more (NoRow (l .new)) (l .k) (l .inv .2 e) (none-passes (rowsHas (l .new) (l .k)) (held-in _ _) none))
 
 returns : tie.Need-returns Inv-loop μ-loop
 returns c =
     let l = c .before .loop in
-    (l .inv .1, λ e p s h. l .inv .2 e p s (omega arith))
+    (l .inv .1, λ e p h. l .inv .2 e p (omega arith))
 
 pub grow-round-spec : {M : Type 1} → statement M
 grow-round-spec =

@@ -1,18 +1,18 @@
 -- `keeps` meets its contract: no start node is outside the row, since the start nodes are among 1 to 128.
 use Rattle.truth.specs.Rows.{rowHas}
-use Rattle.truth.proofs.StartRows.{starts-in}
-use borrow.Author.Needs.{needs}
+use Rattle.truth.proofs.labelling.StartRows.{starts-in}
+use native.Mathlib.Omega.{arith}
 use Rattle.truth.proofs.labelling.keeps.Statement.{statement}
 use Rattle.truth.proofs.labelling.keeps.Tie as tie
 
 start-row-requires : tie.Need-start-row-requires
-start-row-requires c κs = search needs
+start-row-requires c κs = omega arith
 
 difference-requires : tie.Need-difference-requires
-difference-requires c κs = search needs
+difference-requires c κs = omega arith
 
 is-empty-requires : tie.Need-is-empty-requires
-is-empty-requires c κs = search needs
+is-empty-requires c κs = omega arith
 
 returns : tie.Need-returns
 returns c =

@@ -1,24 +1,38 @@
 -- `label` meets its contract: the first "no" of the table refuses, and where none does, the last row answers.
-use mathlib.Core.Path.{sym, _∙_}
-use Prim.Native.Nat.{_+_, _-_, _*_, _^_, _<_}
+use mathlib.Core.Path.{_≡_, sym, _∙_}
+use Prim.Native.Nat.{_+_, _-_, _*_, _^_, _≤_, _<_}
 use native.Mathlib.Omega.{arith}
 use lib.ListN.{length}
-use Rattle.sheets.specs.Rules.{lent}
+use Rattle.sheets.specs.Machine.{machineRefusal}
+use Rattle.sheets.specs.Rules.{lent, lines, ruleRefusal}
+use Rattle.sheets.proofs.Counting.{number-most}
 use Rattle.sheets.proofs.AcceptedMachine.{nodes-sized}
 use Rattle.sheets.proofs.AcceptedRule.{some-line}
 use Rattle.truth.specs.Rows.{rowHas}
-use Rattle.truth.proofs.LabelTable.{machine-accepted, rules-accepted, space-enough}
-use Rattle.truth.proofs.LabelCounts.{tally-most}
-use Rattle.truth.proofs.LabelAnswers.{refused, done}
+use Rattle.truth.proofs.labelling.LabelTable.{machine-accepted, rules-accepted, space-enough}
+use Rattle.truth.proofs.rows.RowLaws.{tally-number}
+use Rattle.truth.proofs.labelling.LabelAnswers.{refused, done}
 use borrow.Author.Needs.{needs}
 use Rattle.truth.proofs.labelling.label.Statement.{statement}
 use Rattle.truth.proofs.labelling.label.Tie as tie
 
+abbrev start : tie.Else1 → tie.Start
+start c = c .before .before .before .before .before
+
+-- where no question refuses, both sheets are accepted, and the space is enough
+accepted : (c : tie.Else1)
+    → (machineRefusal (start c .args .m .now) ≡ 0) × ((ruleRefusal lent (start c .args .r .now) ≡ 0) × (2 * lines (start c .args .r .now) ≤ length (start c .args .rows .now)))
+accepted c =
+    let a = start c .args in
+    let e = sym (c .if1 .left) ∙ c .before .label-refusal .ensures in
+    let space = length (a .rows .now) in
+    (machine-accepted (a .m .now) (a .r .now) space e, (rules-accepted (a .m .now) (a .r .now) space e, space-enough (a .m .now) (a .r .now) space e))
+
 label-refusal-requires : tie.Need-label-refusal-requires
-label-refusal-requires c κs = search needs
+label-refusal-requires c κs = omega arith
 
 sheet-of-requires : tie.Need-sheet-of-requires
-sheet-of-requires c κs = search needs
+sheet-of-requires c κs = omega arith
 
 returns : tie.Need-returns
 returns c =
@@ -26,56 +40,49 @@ returns c =
     refused (a .m .now) (a .r .now) (a .rows .now) _ (c .before .before .label-refusal .ensures) _ (c .before .if1 .taken) (c .sheet-of .ensures)
 
 label-lines-requires : tie.Need-label-lines-requires
-label-lines-requires c κs =
-    let a = c .before .before .before .before .before .before .args in
-    let e = sym (c .before .if1 .left) ∙ c .before .before .label-refusal .ensures in
-    (machine-accepted (a .m .now) (a .r .now) (length (a .rows .now)) e, (rules-accepted (a .m .now) (a .r .now) (length (a .rows .now)) e, space-enough (a .m .now) (a .r .now) (length (a .rows .now)) e))
+label-lines-requires c κs = accepted (c .before)
 
 lines-requires : tie.Need-lines-requires
-lines-requires c κs = search needs
+lines-requires c κs = omega arith
 
 cast-line-row : tie.Need-cast-line-row
-cast-line-row c = search needs
+cast-line-row c = omega arith
 
 line-row-requires : tie.Need-line-row-requires
 line-row-requires c κs =
-    let a = c .before .before .before .before .before .before .before .before .before .before .before .args in
-    let e = sym (c .before .before .before .before .before .before .if1 .left) ∙ c .before .before .before .before .before .before .before .label-refusal .ensures in
-    let some = some-line lent (a .r .now) (rules-accepted (a .m .now) (a .r .now) (length (a .rows .now)) e) in
-    let room = space-enough (a .m .now) (a .r .now) (length (a .rows .now)) e in
-    (omega (arith, c .lines .ensures), omega (arith, c .lines .ensures, c .before .before .before .before .label-lines .ensures .size))
+    let s = accepted (c .before .before .before .before .before .before) in
+    let some = some-line lent _ (s .1 .0) in
+    (omega (arith, c .lines .ensures), omega (arith, c .lines .ensures, s .1 .1, c .before .before .before .before .label-lines .ensures .size))
 
 count-requires : tie.Need-count-requires
-count-requires c κs = search needs
+count-requires c κs = omega arith
 
 keeps-requires : tie.Need-keeps-requires
-keeps-requires c κs =
-    let a = c .before .before .before .before .before .before .before .before .before .before .before .before .before .args in
-    let e = sym (c .before .before .before .before .before .before .before .before .if1 .left) ∙ c .before .before .before .before .before .before .before .before .before .label-refusal .ensures in
-    nodes-sized (a .m .now) (machine-accepted (a .m .now) (a .r .now) (length (a .rows .now)) e) .1
+keeps-requires c κs = nodes-sized _ (accepted (c .before .before .before .before .before .before .before .before) .0) .1
 
 nodes-requires : tie.Need-nodes-requires
-nodes-requires c κs = search needs
+nodes-requires c κs = omega arith
 
 percent-requires : tie.Need-percent-requires
 percent-requires c κs =
-    let a = c .before .before .before .before .before .before .before .before .before .before .before .before .before .before .before .args in
-    let e = sym (c .before .before .before .before .before .before .before .before .before .before .if1 .left) ∙ c .before .before .before .before .before .before .before .before .before .before .before .label-refusal .ensures in
-    let sized = nodes-sized (a .m .now) (machine-accepted (a .m .now) (a .r .now) (length (a .rows .now)) e) in
-    (rw (c .before .before .count .ensures) (tally-most 128 (rowHas (c .before .before .before .line-row .result))), omega (arith, c .nodes .ensures))
+    let sized = nodes-sized _ (accepted (c .before .before .before .before .before .before .before .before .before .before) .0) in
+    (rw (c .before .before .count .ensures, tally-number 128 (rowHas (c .before .before .before .line-row .result))) (number-most 128 _), omega (arith, c .nodes .ensures))
 
 same-length : tie.Need-same-length
 same-length c = search needs
 
 returns-2 : tie.Need-returns-2
 returns-2 c =
-    let a = c .before .before .before .before .before .before .before .before .before .before .before .before .before .before .before .before .args in
+    let none = c .before .before .before .before .before .before .before .before .before .before .before in
+    let a = start none .args in
     let row = c .before .before .before .before .line-row in
     let i = 2 * (c .before .before .before .before .before .lines .result - 1) in
     let below = c .before .before .before .before .before .before .before .slice-known2 .given in
     let lo : row .result .low < 2 ^ 64 = omega (arith, row .ensures .0, below i) in
     let hi : row .result .high < 2 ^ 64 = omega (arith, row .ensures .1, below (i + 1)) in
-    done (a .m .now) (a .r .now) (a .rows .now) _ (c .before .before .before .before .before .before .before .before .before .before .before .before .label-refusal .ensures) _ (row .result .low) (row .result .high) _ _ _ _ (c .before .before .before .before .before .before .before .before .before .before .before .if1 .left) (c .before .before .before .before .before .before .before .before .before .label-lines .ensures) (c .before .before .before .before .before .lines .ensures) (row .ensures .0) (row .ensures .1) lo hi (c .before .before .keeps .ensures) (c .before .before .before .count .ensures) (rw (c .before .nodes .ensures) at (c .percent .ensures))
+    done (a .m .now) (a .r .now) (a .rows .now) _ (none .before .label-refusal .ensures) _ (row .result .low) (row .result .high) _ _ _ _ (none .if1 .left)
+    (c .before .before .before .before .before .before .before .before .before .label-lines .ensures) (c .before .before .before .before .before .lines .ensures) (row .ensures .0) (row .ensures .1) lo hi (c .before .before .keeps .ensures)
+    (c .before .before .before .count .ensures) (rw (c .before .nodes .ensures) at (c .percent .ensures))
 
 pub label-spec : {M : Type 1} → statement M
 label-spec =

@@ -1,21 +1,21 @@
 -- `percent` meets its contract: the definition, and nothing wraps, since c is at most 128.
 use mathlib.Core.Path.{refl}
 use Rattle.truth.specs.Labelling.{percent}
-use borrow.Author.Needs.{needs}
+use native.Mathlib.Omega.{arith}
 use Rattle.truth.proofs.labelling.percent.Statement.{statement}
 use Rattle.truth.proofs.labelling.percent.Tie as tie
 
 mul-result : tie.Need-mul-result
-mul-result c = search needs
+mul-result c = omega arith
 
 add-result : tie.Need-add-result
-add-result c = search needs
+add-result c = omega arith
 
 mul-result-2 : tie.Need-mul-result-2
-mul-result-2 c = search needs
+mul-result-2 c = omega arith
 
 div-result : tie.Need-div-result
-div-result c = search needs
+div-result c = omega arith
 
 returns : tie.Need-returns
 unfolding percent

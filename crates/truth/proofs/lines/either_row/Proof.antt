@@ -3,28 +3,28 @@ use mathlib.Core.Path.{_∙_}
 use Prim.Native.Nat.{_-_}
 use mathlib.Core.Bool.{_||_}
 use Rattle.truth.specs.Rows.{rowHas, rowsHas}
-use Rattle.truth.proofs.LineRows.{nodes-passing}
-use borrow.Author.Needs.{needs}
+use Rattle.truth.proofs.lines.LineRows.{nodes-passing}
+use native.Mathlib.Omega.{arith}
 use Rattle.truth.proofs.lines.either_row.Statement.{statement}
 use Rattle.truth.proofs.lines.either_row.Tie as tie
 
 nodes-requires : tie.Need-nodes-requires
-nodes-requires c κs = search needs
+nodes-requires c κs = omega arith
 
 node-row-requires : tie.Need-node-row-requires
-node-row-requires c κs = search needs
+node-row-requires c κs = omega arith
 
 line-row-requires : tie.Need-line-row-requires
-line-row-requires c κs = search needs
+line-row-requires c κs = omega arith
 
 line-row-requires-2 : tie.Need-line-row-requires-2
-line-row-requires-2 c κs = search needs
+line-row-requires-2 c κs = omega arith
 
 union-requires : tie.Need-union-requires
-union-requires c κs = search needs
+union-requires c κs = omega arith
 
 intersection-requires : tie.Need-intersection-requires
-intersection-requires c κs = search needs
+intersection-requires c κs = omega arith
 
 returns : tie.Need-returns
 returns c =

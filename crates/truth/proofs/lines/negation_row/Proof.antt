@@ -2,22 +2,22 @@
 use Prim.Native.Nat.{_-_}
 use mathlib.Core.Bool.{not}
 use Rattle.truth.specs.Rows.{rowHas, rowsHas}
-use Rattle.truth.proofs.LineRows.{nodes-passing}
-use borrow.Author.Needs.{needs}
+use Rattle.truth.proofs.lines.LineRows.{nodes-passing}
+use native.Mathlib.Omega.{arith}
 use Rattle.truth.proofs.lines.negation_row.Statement.{statement}
 use Rattle.truth.proofs.lines.negation_row.Tie as tie
 
 nodes-requires : tie.Need-nodes-requires
-nodes-requires c κs = search needs
+nodes-requires c κs = omega arith
 
 node-row-requires : tie.Need-node-row-requires
-node-row-requires c κs = search needs
+node-row-requires c κs = omega arith
 
 line-row-requires : tie.Need-line-row-requires
-line-row-requires c κs = search needs
+line-row-requires c κs = omega arith
 
 difference-requires : tie.Need-difference-requires
-difference-requires c κs = search needs
+difference-requires c κs = omega arith
 
 returns : tie.Need-returns
 returns c =

@@ -1,6 +1,7 @@
 -- `path_row` meets its contract: what the solved tables have at the initial position is the line's row.
 use borrow.Author.Needs.{needs}
-use Rattle.truth.proofs.PathRows.{path-row-of}
+use native.Mathlib.Omega.{arith}
+use Rattle.truth.proofs.lines.PathRows.{path-row-of}
 use Rattle.truth.proofs.lines.path_row.Statement.{statement}
 use Rattle.truth.proofs.lines.path_row.Tie as tie
 
@@ -8,7 +9,7 @@ solve-requires : tie.Need-solve-requires
 solve-requires c κs = search needs
 
 load-requires : tie.Need-load-requires
-load-requires c κs = search needs
+load-requires c κs = omega arith
 
 returns : tie.Need-returns
 returns c =

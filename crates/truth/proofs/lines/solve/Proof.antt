@@ -1,53 +1,47 @@
 -- `solve` meets its contract: the tables are those of the line.
+use Prim.Native.Nat.{_≤_}
 use native.Mathlib.Omega.{arith}
 use Rattle.truth.specs.Rows.{rowHas}
-use Rattle.truth.proofs.PathRows.{states-few, variables-few, solved-line}
-use borrow.Author.Needs.{needs}
+use Rattle.truth.proofs.lines.PathRows.{states-few, variables-few, solved-line}
 use Rattle.truth.proofs.lines.solve.Statement.{statement}
 use Rattle.truth.proofs.lines.solve.Tie as tie
 
+-- the chain is short
+short : (c : tie.After-chain-length) → c .chain-length .result ≤ 16
+short c =
+    let start = c .before .before .before .before .before .before in
+    let a = start .args in
+    omega (arith, c .chain-length .ensures, states-few (a .m .now) (a .r .now) (a .next .now) (a .back .now) (a .rows .now) (a .j) (a .x) (start .pre))
+
 nodes-requires : tie.Need-nodes-requires
-nodes-requires c κs = search needs
+nodes-requires c κs = omega arith
 
 node-row-requires : tie.Need-node-row-requires
-node-row-requires c κs = search needs
+node-row-requires c κs = omega arith
 
 chain-length-requires : tie.Need-chain-length-requires
-chain-length-requires c κs = search needs
+chain-length-requires c κs = omega arith
 
 allow-table-requires : tie.Need-allow-table-requires
 allow-table-requires c κs =
-    let a = c .before .before .before .before .before .before .args in
-    let path = c .before .before .before .before .before .before .pre in
-    let few = states-few (a .m .now) (a .r .now) (a .next .now) (a .back .now) (a .rows .now) (a .j) (a .x) path in
-    (omega (arith, c .chain-length .ensures), variables-few (a .m .now) (a .r .now) (a .next .now) (a .back .now) (a .rows .now) (a .j) (a .x) path, c .chain-length .ensures, path .arguments)
+    let start = c .before .before .before .before .before .before in
+    let a = start .args in
+    (short c, variables-few (a .m .now) (a .r .now) (a .next .now) (a .back .now) (a .rows .now) (a .j) (a .x) (start .pre), c .chain-length .ensures, start .pre .arguments)
 
 good-table-requires : tie.Need-good-table-requires
-good-table-requires c κs =
-    let a = c .before .before .before .before .before .before .before .args in
-    let path = c .before .before .before .before .before .before .before .pre in
-    let few = states-few (a .m .now) (a .r .now) (a .next .now) (a .back .now) (a .rows .now) (a .j) (a .x) path in
-    (omega (arith, c .before .chain-length .ensures), c .before .chain-length .ensures)
+good-table-requires c κs = (short (c .before), c .before .chain-length .ensures)
 
 cast-trim : tie.Need-cast-trim
-cast-trim c = search needs
+cast-trim c = omega arith
 
 trim-requires : tie.Need-trim-requires
-trim-requires c κs =
-    let a = c .before .before .before .before .before .before .before .before .before .args in
-    let path = c .before .before .before .before .before .before .before .before .before .pre in
-    let few = states-few (a .m .now) (a .r .now) (a .next .now) (a .back .now) (a .rows .now) (a .j) (a .x) path in
-    omega (arith, c .before .before .before .chain-length .ensures)
+trim-requires c κs = short (c .before .before .before)
 
 cast-grow : tie.Need-cast-grow
-cast-grow c = search needs
+cast-grow c = omega arith
 
 grow-requires : tie.Need-grow-requires
-grow-requires c κs =
-    let a = c .before .before .before .before .before .before .before .before .before .before .before .args in
-    let path = c .before .before .before .before .before .before .before .before .before .before .before .pre in
-    let few = states-few (a .m .now) (a .r .now) (a .next .now) (a .back .now) (a .rows .now) (a .j) (a .x) path in
-    omega (arith, c .before .before .before .before .before .chain-length .ensures)
+grow-requires c κs = short (c .before .before .before .before .before)
 
 returns : tie.Need-returns
 returns c =

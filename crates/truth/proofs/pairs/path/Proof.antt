@@ -57,9 +57,9 @@ use Rattle.truth.proofs.path.Made as D
 use Rattle.truth.proofs.path.Made.Laws as D′
 use Rattle.truth.proofs.path.Shown as S
 use Rattle.truth.proofs.path.Shown.Laws as S′
-use Rattle.truth.proofs.LentArray.{arrayOf, Lent, lends-array, array-back}
-use Rattle.truth.proofs.WhileSteps.{big-lit}
-use Rattle.truth.proofs.PairAnswers.{count-fits, pairs-answered}
+use Rattle.truth.proofs.pairs.LentArray.{arrayOf, Lent, lends-array, array-back}
+use Rattle.truth.proofs.pairs.WhileSteps.{big-lit}
+use Rattle.truth.proofs.pairs.PairAnswers.{count-fits, pairs-answered}
 use Rattle.truth.proofs.path.make_within as make
 use Rattle.truth.proofs.path.make_within.Symbol as make-def
 use Rattle.truth.proofs.path.make_within.Symbol.{name as #truth·path·make-within}

@@ -51,8 +51,8 @@ use Rattle.truth.specs.declared.pairs.Pair.{Pair}
 use Rattle.truth.specs.PathPairs.{pairNodes, pairStates}
 use Rattle.truth.proofs.pairs.Pair as T
 use Rattle.truth.proofs.pairs.Pair.Laws as T′
-use Rattle.truth.proofs.FilledPairs.{pair, filled, filled-length, nodes-filled, states-filled}
-use Rattle.truth.proofs.WhileSteps.{whiles}
+use Rattle.truth.proofs.pairs.FilledPairs.{pair, filled, filled-length, nodes-filled, states-filled}
+use Rattle.truth.proofs.pairs.WhileSteps.{whiles}
 use Rattle.truth.proofs.pairs.write_pairs.Key.{name as #truth·pairs·write-pairs}
 use Rattle.truth.proofs.pairs.write_pairs as f
 use Rattle.truth.proofs.pairs.write_pairs.Statement as stated

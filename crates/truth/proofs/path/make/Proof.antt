@@ -7,7 +7,7 @@ use native.Mathlib.Omega.{arith}
 use lib.ListN.{length}
 use Rattle.sheets.specs.Machine.{machineRefusal}
 use Rattle.sheets.specs.Rules.{lent, ruleRefusal}
-use Rattle.truth.proofs.PathMade.{rows-fit, refused, machine-accepted, rules-accepted, line-in, no-path, show-ready, shown}
+use Rattle.truth.proofs.path.PathMade.{rows-fit, refused, machine-accepted, rules-accepted, line-in, no-path, show-ready, shown}
 use Rattle.truth.proofs.path.make.Statement.{statement}
 use Rattle.truth.proofs.path.make.Tie as tie
 

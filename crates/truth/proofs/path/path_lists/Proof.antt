@@ -4,7 +4,7 @@ use mathlib.Core.Path.{_≡_}
 use Prim.Native.Nat.{min, _≤_}
 use native.Mathlib.Omega.{arith}
 use lib.ListN.{length}
-use Rattle.truth.proofs.ShownPaths.{count-most, answered}
+use Rattle.truth.proofs.path.ShownPaths.{count-most, answered}
 use borrow.Author.Needs.{needs}
 use Rattle.truth.proofs.path.path_lists.Statement.{statement}
 use Rattle.truth.proofs.path.path_lists.Tie as tie

@@ -2,8 +2,8 @@
 use mathlib.Core.Path.{sym, _∙_}
 use borrow.Author.Tests.{not-true, not-false}
 use Rattle.truth.specs.Path.{pathQuestions}
-use Rattle.truth.proofs.LabelTable.{by-machine, by-rules, by-signals, by-last}
-use Rattle.truth.proofs.PathTable.{ownQuestions, own-line, own-room, own-none}
+use Rattle.truth.proofs.labelling.LabelTable.{by-machine, by-rules, by-signals, by-last}
+use Rattle.truth.proofs.path.PathTable.{ownQuestions, own-line, own-room, own-none}
 use borrow.Author.Needs.{needs}
 use Rattle.truth.proofs.path.path_refusal.Statement.{statement}
 use Rattle.truth.proofs.path.path_refusal.Tie as tie

@@ -1,8 +1,8 @@
 -- `show` meets its contract: the solved tables can be walked, and the walk, its positions named, is the list.
 use borrow.Author.Needs.{needs}
 use native.Mathlib.Omega.{arith}
-use Rattle.truth.proofs.PathRows.{states-few}
-use Rattle.truth.proofs.ShownLines.{walkable, list-fits, shows-line}
+use Rattle.truth.proofs.lines.PathRows.{states-few}
+use Rattle.truth.proofs.path.ShownLines.{walkable, list-fits, shows-line}
 use Rattle.truth.proofs.path.show.Statement.{statement}
 use Rattle.truth.proofs.path.show.Tie as tie
 

@@ -2,7 +2,7 @@
 use borrow.Author.Needs.{needs}
 use native.Mathlib.Omega.{arith}
 use Rattle.sheets.proofs.AcceptedMachine.{nodes-sized}
-use Rattle.truth.proofs.ReadyTables.{ready}
+use Rattle.truth.proofs.lines.ReadyTables.{ready}
 use Rattle.truth.proofs.path.show_with.Statement.{statement}
 use Rattle.truth.proofs.path.show_with.Tie as tie
 

@@ -5,7 +5,7 @@ use Prim.Native.Nat.{_-_, _≤_}
 use native.Mathlib.Omega.{arith}
 use mathlib.Core.List.{_++_}
 use lib.ListN.{length, take, drop}
-use Rattle.truth.proofs.WrittenLists.{written-length, written-next}
+use Rattle.truth.proofs.path.WrittenLists.{written-length, written-next}
 use borrow.Author.Needs.{needs}
 use Rattle.truth.proofs.path.write_nodes.Statement.{statement}
 use Rattle.truth.proofs.path.write_nodes.Tie as tie

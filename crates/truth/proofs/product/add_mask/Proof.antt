@@ -1,6 +1,5 @@
 -- `add_mask` meets its contract. The invariant: the positions below k have their mask, and from k on the masks are as they were. The measure is
 -- what is left of t.
-use borrow.Author.Needs.{needs}
 use mathlib.Core.Path.{_≡_, refl, _∙_}
 use Prim.Native.Nat.{ℕ, _-_, _≤_, _<_}
 use native.Mathlib.Omega.{arith}
@@ -8,7 +7,7 @@ use borrow.Author.Count.{below-more}
 use lib.ListN.{length, getD, length-set}
 use lib.Seq.{getD-set-other}
 use Rattle.sheets.proofs.Positions.{stored}
-use Rattle.truth.proofs.MaskLaws.{More, more-here, more-not}
+use Rattle.truth.proofs.product.MaskLaws.{More, more-here, more-not}
 use Rattle.truth.proofs.product.add_mask.Statement.{statement}
 use Rattle.truth.proofs.product.add_mask.Tie as tie
 
@@ -24,31 +23,31 @@ loop-holds : tie.Need-loop-holds Inv-loop μ-loop
 loop-holds c = (omega arith, c .pre .1, λ j l. absurd (omega arith), λ j l. refl)
 
 cast-at : tie.Need-cast-at Inv-loop μ-loop
-cast-at c = search needs
+cast-at c = omega arith
 
 add-k : tie.Need-add-k Inv-loop μ-loop
-add-k c = search needs
+add-k c = omega arith
 
 mul-if1 : tie.Need-mul-if1 Inv-loop μ-loop
-mul-if1 c = search needs
+mul-if1 c = omega arith
 
 array-read-if1 : tie.Need-array-read-if1 Inv-loop μ-loop
-array-read-if1 c = search needs
+array-read-if1 c = omega arith
 
 mul-masks : tie.Need-mul-masks Inv-loop μ-loop
-mul-masks c = search needs
+mul-masks c = omega arith
 
 element-copy-out-masks : tie.Need-element-copy-out-masks Inv-loop μ-loop
-element-copy-out-masks c = search needs
+element-copy-out-masks c = omega arith
 
 mul-masks-2 : tie.Need-mul-masks-2 Inv-loop μ-loop
-mul-masks-2 c = search needs
+mul-masks-2 c = omega arith
 
 element-write-masks : tie.Need-element-write-masks Inv-loop μ-loop
-element-write-masks c = search needs
+element-write-masks c = omega arith
 
 loop-less : tie.Need-loop-less Inv-loop μ-loop
-loop-less c = search needs
+loop-less c = omega arith
 
 loop-again : tie.Need-loop-again Inv-loop μ-loop
 loop-again c =
@@ -62,7 +61,7 @@ loop-again c =
     )
 
 loop-less-2 : tie.Need-loop-less-2 Inv-loop μ-loop
-loop-less-2 c = search needs
+loop-less-2 c = omega arith
 
 loop-again-2 : tie.Need-loop-again-2 Inv-loop μ-loop
 loop-again-2 c =

@@ -1,12 +1,11 @@
 -- `allow_table` meets its contract. The invariant: the rows of positions below p are made, and every row has nodes of the valuations' rows alone.
 -- The measure is what is left of t.
-use borrow.Author.Needs.{needs}
 use mathlib.Core.Path.{_≡_}
 use Prim.Native.Nat.{_-_, _≤_}
 use native.Mathlib.Omega.{arith}
 use Rattle.sheets.specs.Rules.{variables}
 use Rattle.truth.specs.Rows.{rowHas}
-use Rattle.truth.proofs.AllowedTables.{Built, built-none, built-more, built-allowed}
+use Rattle.truth.proofs.product.AllowedTables.{Built, built-none, built-more, built-allowed}
 use Rattle.truth.proofs.product.allow_table.Statement.{statement}
 use Rattle.truth.proofs.product.allow_table.Tie as tie
 
@@ -17,10 +16,10 @@ abbrev μ-loop : tie.MeasureT-loop
 μ-loop r rows j x t v states table out₀ p₀ out p = t - p
 
 automaton-word-requires : tie.Need-automaton-word-requires Inv-loop μ-loop
-automaton-word-requires c κs = search needs
+automaton-word-requires c κs = omega arith
 
 chain-states-requires : tie.Need-chain-states-requires Inv-loop μ-loop
-chain-states-requires c κs = search needs
+chain-states-requires c κs = omega arith
 
 valuation-table-requires : tie.Need-valuation-table-requires Inv-loop μ-loop
 unfolding variables
@@ -32,16 +31,16 @@ loop-holds : tie.Need-loop-holds Inv-loop μ-loop
 loop-holds c = (omega arith, built-none _ _ _ _ _)
 
 cast-masks-from : tie.Need-cast-masks-from Inv-loop μ-loop
-cast-masks-from c = search needs
+cast-masks-from c = omega arith
 
 mul-masks-from : tie.Need-mul-masks-from Inv-loop μ-loop
-mul-masks-from c = search needs
+mul-masks-from c = omega arith
 
 array-read-masks-from : tie.Need-array-read-masks-from Inv-loop μ-loop
-array-read-masks-from c = search needs
+array-read-masks-from c = omega arith
 
 masks-from-requires : tie.Need-masks-from-requires Inv-loop μ-loop
-masks-from-requires c κs = search needs
+masks-from-requires c κs = omega arith
 
 set-masks-requires : tie.Need-set-masks-requires Inv-loop μ-loop
 unfolding variables
@@ -51,10 +50,10 @@ set-masks-requires c κs =
     (rw (s .automaton-word .ensures) (pre .1), omega arith, pre .0, c .before .before .before .before .loop .inv .1 .size)
 
 add-p : tie.Need-add-p Inv-loop μ-loop
-add-p c = search needs
+add-p c = omega arith
 
 loop-less : tie.Need-loop-less Inv-loop μ-loop
-loop-less c = search needs
+loop-less c = omega arith
 
 loop-again : tie.Need-loop-again Inv-loop μ-loop
 loop-again c =

@@ -8,7 +8,7 @@ use Rattle.sheets.specs.Rules.{states, statesOf, initial, stateWord}
 use Rattle.sheets.proofs.Records.{rest}
 use Rattle.sheets.proofs.Positions.{stored}
 use Rattle.truth.specs.Product.{stateAt}
-use Rattle.truth.proofs.ChainStates.{not-ended, state-here, state-next}
+use Rattle.truth.proofs.product.ChainStates.{not-ended, state-here, state-next}
 use Rattle.truth.proofs.product.chain_states.Statement.{statement}
 use Rattle.truth.proofs.product.chain_states.Tie as tie
 
@@ -21,7 +21,7 @@ abbrev μ-loop : tie.MeasureT-loop
 μ-loop r x t out₀ q₀ k₀ out q k = t - k
 
 automaton-word-requires : tie.Need-automaton-word-requires Inv-loop μ-loop
-automaton-word-requires c κs = search needs
+automaton-word-requires c κs = omega arith
 
 loop-holds : tie.Need-loop-holds Inv-loop μ-loop
 unfolding statesOf initial
@@ -31,7 +31,7 @@ loop-holds c =
     (omega arith, search needs, λ j l. absurd (omega arith), rw (c .automaton-word .ensures, e))
 
 state-requires : tie.Need-state-requires Inv-loop μ-loop
-state-requires c κs = search needs
+state-requires c κs = omega arith
 
 enum-known-step : tie.Need-enum-known-step Inv-loop μ-loop
 enum-known-step c = search needs
@@ -48,19 +48,19 @@ returns c =
     (c .before .before .state .ensures) (c .enum-told .given .1))
 
 cast-out : tie.Need-cast-out Inv-loop μ-loop
-cast-out c = search needs
+cast-out c = omega arith
 
 mul-out : tie.Need-mul-out Inv-loop μ-loop
-mul-out c = search needs
+mul-out c = omega arith
 
 array-write-out : tie.Need-array-write-out Inv-loop μ-loop
-array-write-out c = search needs
+array-write-out c = omega arith
 
 add-k : tie.Need-add-k Inv-loop μ-loop
-add-k c = search needs
+add-k c = omega arith
 
 loop-less : tie.Need-loop-less Inv-loop μ-loop
-loop-less c = search needs
+loop-less c = omega arith
 
 loop-again : tie.Need-loop-again Inv-loop μ-loop
 loop-again c =

@@ -1,15 +1,15 @@
 -- `good_row` meets its contract: a state is good where it accepts, or where the two are exchanged and it does not.
-use borrow.Author.Needs.{needs}
+use native.Mathlib.Omega.{arith}
 use Rattle.truth.specs.Rows.{rowHas}
-use Rattle.truth.proofs.GoodStates.{good-yes, good-no, exchanged-yes, exchanged-no}
+use Rattle.truth.proofs.product.GoodStates.{good-yes, good-no, exchanged-yes, exchanged-no}
 use Rattle.truth.proofs.product.good_row.Statement.{statement}
 use Rattle.truth.proofs.product.good_row.Tie as tie
 
 state-word-requires : tie.Need-state-word-requires
-state-word-requires c κs = search needs
+state-word-requires c κs = omega arith
 
 empty-requires : tie.Need-empty-requires
-empty-requires c κs = search needs
+empty-requires c κs = omega arith
 
 returns : tie.Need-returns
 returns c s =
@@ -28,7 +28,7 @@ returns-3 c s =
     good-yes (a .r .now) (a .q) _ (c .before .before .state-word .ensures) (a .exchanged) (rowHas (a .all) s) (c .before .if1 .left) (c .if3 .taken)
 
 empty-requires-2 : tie.Need-empty-requires-2
-empty-requires-2 c κs = search needs
+empty-requires-2 c κs = omega arith
 
 returns-4 : tie.Need-returns-4
 returns-4 c s =

@@ -1,5 +1,4 @@
 -- `mask_row` meets its contract. The invariant: the row has the rows below w of the mask's valuations. The measure is the number of those left.
-use borrow.Author.Needs.{needs}
 use mathlib.Core.Path.{_≡_, sym, _∙_}
 use Prim.Native.Nat.{ℕ, _-_, _^_, _≤_}
 use native.Mathlib.Omega.{arith}
@@ -8,7 +7,7 @@ use Rattle.sheets.specs.Words.{bit}
 use Rattle.sheets.specs.Positions.{someBelow}
 use Rattle.sheets.proofs.Positions.{joined-none, joined-yes, joined-no}
 use Rattle.truth.specs.Rows.{rowHas, rowsHas}
-use Rattle.truth.proofs.ValuationRows.{valuations}
+use Rattle.truth.proofs.product.ValuationRows.{valuations}
 use Rattle.truth.proofs.product.mask_row.Statement.{statement}
 use Rattle.truth.proofs.product.mask_row.Tie as tie
 
@@ -19,10 +18,10 @@ abbrev μ-loop : tie.MeasureT-loop
 μ-loop table v mask most out₀ w₀ out w = most - w
 
 shl-most : tie.Need-shl-most Inv-loop μ-loop
-shl-most c = search needs
+shl-most c = omega arith
 
 empty-requires : tie.Need-empty-requires Inv-loop μ-loop
-empty-requires c κs = search needs
+empty-requires c κs = omega arith
 
 loop-holds : tie.Need-loop-holds Inv-loop μ-loop
 loop-holds c =
@@ -30,13 +29,13 @@ loop-holds c =
     (omega arith, λ s. c .empty .ensures s ∙ joined-none (bit (a .mask)) (λ u. rowsHas (a .table .now) u s) false)
 
 add-w : tie.Need-add-w Inv-loop μ-loop
-add-w c = search needs
+add-w c = omega arith
 
 bit-requires : tie.Need-bit-requires Inv-loop μ-loop
-bit-requires c κs = search needs
+bit-requires c κs = omega arith
 
 cast-load : tie.Need-cast-load Inv-loop μ-loop
-cast-load c = search needs
+cast-load c = omega arith
 
 load-requires : tie.Need-load-requires Inv-loop μ-loop
 load-requires c κs =
@@ -44,10 +43,10 @@ load-requires c κs =
     omega (arith, v .0, v .1)
 
 union-requires : tie.Need-union-requires Inv-loop μ-loop
-union-requires c κs = search needs
+union-requires c κs = omega arith
 
 loop-less : tie.Need-loop-less Inv-loop μ-loop
-loop-less c = search needs
+loop-less c = omega arith
 
 loop-again : tie.Need-loop-again Inv-loop μ-loop
 loop-again c =
@@ -61,7 +60,7 @@ loop-again c =
     )
 
 loop-less-2 : tie.Need-loop-less-2 Inv-loop μ-loop
-loop-less-2 c = search needs
+loop-less-2 c = omega arith
 
 loop-again-2 : tie.Need-loop-again-2 Inv-loop μ-loop
 loop-again-2 c =

@@ -6,12 +6,14 @@ use Prim.Native.Nat.{ℕ, _<_}
 use mathlib.Core.Bool.{Bool, _&&_, _||_}
 use lib.ListN.{length, getD}
 use lib.Dec.{eqb}
+use native.Mathlib.Omega.{arith}
 use Rattle.sheets.specs.Words.{bit}
 use Rattle.sheets.specs.Rules.{transitionsOf, transitionTarget, mask, transitionWord}
 use Rattle.sheets.proofs.Records.{rest}
 use Rattle.sheets.proofs.ChainLoops.{passes}
 use Rattle.truth.specs.Product.{takes}
-use Rattle.truth.proofs.MaskLaws.{found-none, found-spent, found-ended, found-more}
+use Rattle.truth.proofs.product.MaskLaws.{none-masked}
+use Rattle.truth.proofs.structure.ChainRows.{found-spent, found-ended, found-more}
 use Rattle.truth.proofs.product.masks_from.Statement.{statement}
 use Rattle.truth.proofs.product.masks_from.Tie as tie
 
@@ -30,17 +32,17 @@ abbrev μ-loop : tie.MeasureT-loop
 μ-loop r q states t out₀ left₀ y₀ out left y = left
 
 transitions-requires : tie.Need-transitions-requires Inv-loop μ-loop
-transitions-requires c κs = search needs
+transitions-requires c κs = omega arith
 
 state-word-requires : tie.Need-state-word-requires Inv-loop μ-loop
-state-word-requires c κs = search needs
+state-word-requires c κs = omega arith
 
 loop-holds : tie.Need-loop-holds Inv-loop μ-loop
 unfolding takes transitionsOf mask transitionTarget
-loop-holds c = (refl, λ k w l. rw (c .before .transitions .ensures, c .state-word .ensures) (found-none 16 k w _))
+loop-holds c = (refl, λ k w l. rw (c .before .transitions .ensures, c .state-word .ensures) (none-masked 16 k w _))
 
 transition-requires : tie.Need-transition-requires Inv-loop μ-loop
-transition-requires c κs = search needs
+transition-requires c κs = omega arith
 
 enum-known-step : tie.Need-enum-known-step Inv-loop μ-loop
 enum-known-step c = search needs
@@ -56,13 +58,13 @@ returns c k w l =
     (c .before .before .transition .ensures) (c .enum-told .given .1)
 
 add-mask-requires : tie.Need-add-mask-requires Inv-loop μ-loop
-add-mask-requires c κs = search needs
+add-mask-requires c κs = omega arith
 
 sub-left : tie.Need-sub-left Inv-loop μ-loop
-sub-left c = search needs
+sub-left c = omega arith
 
 loop-less : tie.Need-loop-less Inv-loop μ-loop
-loop-less c = search needs
+loop-less c = omega arith
 
 loop-again : tie.Need-loop-again Inv-loop μ-loop
 loop-again c =

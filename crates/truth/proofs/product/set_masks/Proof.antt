@@ -1,10 +1,9 @@
 -- `set_masks` meets its contract. The invariant: k rows are set, and the others are as they were. The measure is what is left of t.
-use borrow.Author.Needs.{needs}
 use mathlib.Core.Path.{_≡_}
 use Prim.Native.Nat.{_+_, _-_, _*_, _≤_, _<_}
 use native.Mathlib.Omega.{arith}
 use Rattle.truth.specs.Product.{Masked}
-use Rattle.truth.proofs.AllowedTables.{masked-none, masked-more}
+use Rattle.truth.proofs.product.AllowedTables.{masked-none, masked-more}
 use Rattle.truth.proofs.product.set_masks.Statement.{statement}
 use Rattle.truth.proofs.product.set_masks.Tie as tie
 
@@ -18,34 +17,34 @@ loop-holds : tie.Need-loop-holds Inv-loop μ-loop
 loop-holds c = (omega arith, masked-none _ _ _ _ _ (c .pre .3))
 
 cast-mask-row : tie.Need-cast-mask-row Inv-loop μ-loop
-cast-mask-row c = search needs
+cast-mask-row c = omega arith
 
 mul-mask-row : tie.Need-mul-mask-row Inv-loop μ-loop
-mul-mask-row c = search needs
+mul-mask-row c = omega arith
 
 array-read-mask-row : tie.Need-array-read-mask-row Inv-loop μ-loop
-array-read-mask-row c = search needs
+array-read-mask-row c = omega arith
 
 mask-row-requires : tie.Need-mask-row-requires Inv-loop μ-loop
-mask-row-requires c κs = search needs
+mask-row-requires c κs = omega arith
 
 mul-store : tie.Need-mul-store Inv-loop μ-loop
-mul-store c = search needs
+mul-store c = omega arith
 
 add-store : tie.Need-add-store Inv-loop μ-loop
-add-store c = search needs
+add-store c = omega arith
 
 cast-store : tie.Need-cast-store Inv-loop μ-loop
-cast-store c = search needs
+cast-store c = omega arith
 
 store-requires : tie.Need-store-requires Inv-loop μ-loop
-store-requires c κs = search needs
+store-requires c κs = omega arith
 
 add-k : tie.Need-add-k Inv-loop μ-loop
-add-k c = search needs
+add-k c = omega arith
 
 loop-less : tie.Need-loop-less Inv-loop μ-loop
-loop-less c = search needs
+loop-less c = omega arith
 
 loop-again : tie.Need-loop-again Inv-loop μ-loop
 loop-again c =

@@ -1,12 +1,12 @@
 -- `valuation_row` meets its contract. The invariant: the row has the nodes at which the first i lines agree with w. The measure is what is left of v.
-use borrow.Author.Needs.{needs}
-use mathlib.Core.Path.{_≡_, sym, _∙_}
+use mathlib.Core.Path.{_≡_, sym, ap, _∙_}
 use Prim.Native.Nat.{ℕ, _-_, _≤_}
 use native.Mathlib.Omega.{arith}
 use mathlib.Core.Bool.{_&&_}
 use Rattle.truth.specs.Rows.{rowHas}
 use Rattle.truth.specs.Product.{agrees, argumentAt}
-use Rattle.truth.proofs.ValuationRows.{line-held, agrees-none, agrees-yes, agrees-no}
+use Rattle.truth.proofs.tables.TableLaws.{loaded}
+use Rattle.truth.proofs.product.ValuationRows.{agrees-none, agrees-yes, agrees-no}
 use Rattle.truth.proofs.product.valuation_row.Statement.{statement}
 use Rattle.truth.proofs.product.valuation_row.Tie as tie
 
@@ -22,16 +22,16 @@ loop-holds c =
     (omega arith, λ s. agrees-none (a .w) (argumentAt (a .r .now) (a .rows .now) (a .j) s) _)
 
 add-i : tie.Need-add-i Inv-loop μ-loop
-add-i c = search needs
+add-i c = omega arith
 
 add-line-word : tie.Need-add-line-word Inv-loop μ-loop
-add-line-word c = search needs
+add-line-word c = omega arith
 
 line-word-requires : tie.Need-line-word-requires Inv-loop μ-loop
-line-word-requires c κs = search needs
+line-word-requires c κs = omega arith
 
 cast-line-row : tie.Need-cast-line-row Inv-loop μ-loop
-cast-line-row c = search needs
+cast-line-row c = omega arith
 
 line-row-requires : tie.Need-line-row-requires Inv-loop μ-loop
 line-row-requires c κs =
@@ -39,13 +39,13 @@ line-row-requires c κs =
     rw (c .line-word .ensures) (c .before .before .before .before .before .pre .1 (at .i) (c .before .loop-test .taken))
 
 bit-requires : tie.Need-bit-requires Inv-loop μ-loop
-bit-requires c κs = search needs
+bit-requires c κs = omega arith
 
 intersection-requires : tie.Need-intersection-requires Inv-loop μ-loop
-intersection-requires c κs = search needs
+intersection-requires c κs = omega arith
 
 loop-less : tie.Need-loop-less Inv-loop μ-loop
-loop-less c = search needs
+loop-less c = omega arith
 
 loop-again : tie.Need-loop-again Inv-loop μ-loop
 loop-again c =
@@ -54,16 +54,16 @@ loop-again c =
     let at = read .before .before .before .loop in (
       omega arith,
       λ s.
-          let row = line-held (a .rows .now) _ _ _ _ s (read .before .line-word .ensures) (read .line-row .ensures .0) (read .line-row .ensures .1) in
+          let row = loaded (a .rows .now) (read .line-row .result) _ _ s (read .line-row .ensures) (ap (λ (n : ℕ). n - 1) (sym (read .before .line-word .ensures))) in
           c .intersection .ensures s ∙ rw row (agrees-yes (a .w) (argumentAt (a .r .now) (a .rows .now) (a .j) s) (rowHas (a .all) s) (at .i) _ (at .inv .1 s)
           (sym (c .before .before .bit .ensures) ∙ c .before .if1 .taken)),
     )
 
 difference-requires : tie.Need-difference-requires Inv-loop μ-loop
-difference-requires c κs = search needs
+difference-requires c κs = omega arith
 
 loop-less-2 : tie.Need-loop-less-2 Inv-loop μ-loop
-loop-less-2 c = search needs
+loop-less-2 c = omega arith
 
 loop-again-2 : tie.Need-loop-again-2 Inv-loop μ-loop
 loop-again-2 c =
@@ -72,7 +72,7 @@ loop-again-2 c =
     let at = read .before .before .before .loop in (
       omega arith,
       λ s.
-          let row = line-held (a .rows .now) _ _ _ _ s (read .before .line-word .ensures) (read .line-row .ensures .0) (read .line-row .ensures .1) in
+          let row = loaded (a .rows .now) (read .line-row .result) _ _ s (read .line-row .ensures) (ap (λ (n : ℕ). n - 1) (sym (read .before .line-word .ensures))) in
           c .difference .ensures s ∙ rw row (agrees-no (a .w) (argumentAt (a .r .now) (a .rows .now) (a .j) s) (rowHas (a .all) s) (at .i) _ (at .inv .1 s)
           (sym (c .before .before .bit .ensures) ∙ c .before .if1 .left)),
     )

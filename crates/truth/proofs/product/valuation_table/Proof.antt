@@ -1,40 +1,39 @@
 -- `valuation_table` meets its contract. The invariant: the rows below w have the nodes of their valuations. The measure is the number of those left.
 use borrow.Author.Needs.{needs}
 use mathlib.Core.Path.{_≡_}
-use Prim.Native.Nat.{ℕ, _-_, _≤_, _<_}
+use Prim.Native.Nat.{ℕ, _-_, _≤_}
 use native.Mathlib.Omega.{arith}
 use mathlib.Core.List.{List}
 use mathlib.Core.Bool.{Bool, _&&_}
-use lib.ListN.{length}
-use Rattle.truth.specs.Rows.{rowHas, rowsHas}
+use Rattle.truth.specs.Rows.{rowHas}
 use Rattle.truth.specs.Product.{agrees, argumentAt}
 use Rattle.truth.specs.declared.rows.Row.{Row}
-use Rattle.truth.proofs.ValuationRows.{valuations}
-use Rattle.truth.proofs.StoredRows.{row-size, row-more}
+use Rattle.truth.proofs.product.ValuationRows.{valuations}
+use Rattle.truth.proofs.tables.TableLaws.{Filled, filled-none, filled-more}
 use Rattle.truth.proofs.product.valuation_table.Statement.{statement}
 use Rattle.truth.proofs.product.valuation_table.Tie as tie
 
--- node s has the valuation w
-abbrev valued : List ℕ → List ℕ → Row → ℕ → ℕ → ℕ → ℕ → Bool
-valued r rows all j v w s = rowHas all s && agrees v w (argumentAt r rows j s)
+-- whether node s has the valuation w
+abbrev Valued : List ℕ → List ℕ → Row → ℕ → ℕ → ℕ → ℕ → Bool → Type 0
+Valued r rows all j v w s b = b ≡ (rowHas all s && agrees v w (argumentAt r rows j s))
 
 abbrev Inv-loop : tie.InvT-loop
-Inv-loop r rows all j v out₀ most w₀ out w = (w ≤ most) × (length out ≡ 512) × ((u s : ℕ) → u < w → rowsHas out u s ≡ valued r rows all j v u s)
+Inv-loop r rows all j v out₀ most w₀ out w = (w ≤ most) × Filled (Valued r rows all j v) w out
 
 abbrev μ-loop : tie.MeasureT-loop
 μ-loop r rows all j v out₀ most w₀ out w = most - w
 
 shl-most : tie.Need-shl-most Inv-loop μ-loop
-shl-most c = search needs
+shl-most c = omega arith
 
 loop-holds : tie.Need-loop-holds Inv-loop μ-loop
-loop-holds c = (omega arith, search needs, λ u s l. absurd (omega arith))
+loop-holds c = (omega arith, filled-none _ _ (search needs))
 
 valuation-row-requires : tie.Need-valuation-row-requires Inv-loop μ-loop
 valuation-row-requires c κs = search needs
 
 cast-store : tie.Need-cast-store Inv-loop μ-loop
-cast-store c = search needs
+cast-store c = omega arith
 
 store-requires : tie.Need-store-requires Inv-loop μ-loop
 store-requires c κs =
@@ -42,27 +41,23 @@ store-requires c κs =
     omega (arith, v .0, v .1)
 
 add-w : tie.Need-add-w Inv-loop μ-loop
-add-w c = search needs
+add-w c = omega arith
 
 loop-less : tie.Need-loop-less Inv-loop μ-loop
-loop-less c = search needs
+loop-less c = omega arith
 
 loop-again : tie.Need-loop-again Inv-loop μ-loop
 loop-again c =
     let a = c .before .before .before .before .before .before .before .args in
     let at = c .before .before .before .before .loop in
     let v = valuations (a .v) (omega arith) in
-    let fits : at .w < 256 = omega (arith, v .0, v .1) in
-    let now = valued (a .r .now) (a .rows .now) (a .all) (a .j) (a .v) in (
-      omega arith,
-      row-size now (at .out) _ (at .w) _ _ (at .inv .1) fits (c .store .ensures),
-      row-more now (at .out) _ (at .w) _ _ (at .inv .1) fits (c .store .ensures) (at .inv .2) (c .before .before .valuation-row .ensures),
-    )
+    let valued = Valued (a .r .now) (a .rows .now) (a .all) (a .j) (a .v) in
+    (omega arith, filled-more valued (at .out) _ (at .w) _ _ (at .inv .1) (omega (arith, v .0, v .1)) (c .store .ensures) (c .before .before .valuation-row .ensures))
 
 returns : tie.Need-returns Inv-loop μ-loop
 returns c w s l =
     let v = valuations (c .before .before .before .before .args .v) (omega arith) in
-    c .before .loop .inv .2 w s (omega (arith, v .0, v .1))
+    c .before .loop .inv .1 .rows w s (omega (arith, v .0, v .1))
 
 pub valuation-table-spec : {M : Type 1} → statement M
 valuation-table-spec =

@@ -1,9 +1,8 @@
 -- `before` meets its contract. The invariant: what is before a node that is no longer left is gathered. The measure is how many are left.
-use borrow.Author.Needs.{needs}
 use native.Mathlib.Omega.{arith}
 use Rattle.sheets.proofs.Counting.{number}
 use Rattle.truth.specs.Rows.{rowHas}
-use Rattle.truth.proofs.RowWalks.{none-left, one-left, one-within, less-falls, Gathered, gathered-none, gathered-next, gathered-end}
+use Rattle.truth.proofs.rows.RowWalks.{none-left, one-left, one-within, less-falls, Gathered, gathered-none, gathered-next, gathered-end}
 use Rattle.truth.proofs.structure.before.Statement.{statement}
 use Rattle.truth.proofs.structure.before.Tie as tie
 
@@ -14,43 +13,43 @@ abbrev μ-loop : tie.MeasureT-loop
 μ-loop back out₀ left₀ out left = number 128 (rowHas left)
 
 empty-requires : tie.Need-empty-requires Inv-loop μ-loop
-empty-requires c κs = search needs
+empty-requires c κs = omega arith
 
 loop-holds : tie.Need-loop-holds Inv-loop μ-loop
 loop-holds c = gathered-none _ _ _ (c .empty .ensures)
 
 first-requires : tie.Need-first-requires Inv-loop μ-loop
-first-requires c κs = search needs
+first-requires c κs = omega arith
 
 returns : tie.Need-returns Inv-loop μ-loop
-returns c = gathered-end _ _ _ _ (c .before .before .loop .inv) (none-left _ _ _ (c .before .first .ensures) (c .if1 .taken))
+returns c = gathered-end _ _ _ _ (c .before .before .loop .inv) (none-left _ _ (c .before .first .ensures) (c .if1 .taken))
 
 cast-load : tie.Need-cast-load Inv-loop μ-loop
-cast-load c = search needs
+cast-load c = omega arith
 
 sub-load : tie.Need-sub-load Inv-loop μ-loop
-sub-load c = search needs
+sub-load c = omega arith
 
 load-requires : tie.Need-load-requires Inv-loop μ-loop
 load-requires c κs = let r = one-within _ _ _ (c .before .first .ensures) (c .if1 .left) in omega arith
 
 union-requires : tie.Need-union-requires Inv-loop μ-loop
-union-requires c κs = search needs
+union-requires c κs = omega arith
 
 without-requires : tie.Need-without-requires Inv-loop μ-loop
-without-requires c κs = search needs
+without-requires c κs = omega arith
 
 loop-less : tie.Need-loop-less Inv-loop μ-loop
 loop-less c =
     let n = c .before .before .before .if1 .left in
     let f = c .before .before .before .before .first .ensures in
     let r = one-within _ _ _ f n in
-    less-falls _ _ _ (c .without .ensures) (r .0) (r .1) (one-left _ _ _ f n)
+    less-falls _ _ _ (c .without .ensures) (r .0) (r .1) (one-left _ _ f n)
 
 loop-again : tie.Need-loop-again Inv-loop μ-loop
 loop-again c =
     let l = c .before .before .load .ensures in
-    let t = one-left _ _ _ (c .before .before .before .before .first .ensures) (c .before .before .before .if1 .left) in
+    let t = one-left _ _ (c .before .before .before .before .first .ensures) (c .before .before .before .if1 .left) in
     gathered-next _ _ _ _ _ _ _ _ _ (c .before .before .before .before .before .loop .inv) t (c .without .ensures) (l .0) (l .1) (c .before .union .ensures)
 
 pub before-spec : {M : Type 1} → statement M

@@ -1,11 +1,10 @@
 -- `signal_row` meets its contract. The invariant: the row has the nodes up to s that set the signal. The measure is the nodes left.
 use mathlib.Core.Path.{_≡_, sym, _∙_}
-use borrow.Author.Needs.{needs}
 use native.Mathlib.Omega.{arith}
 use Prim.Native.Nat.{ℕ, _-_, _≤_}
 use Rattle.sheets.specs.Machine.{nodes, signalAt}
 use Rattle.truth.specs.Rows.{rowHas}
-use Rattle.truth.proofs.NodeLoops.{sofar, sofar-none, sofar-no, sofar-yes}
+use Rattle.truth.proofs.structure.NodeLoops.{sofar, sofar-none, sofar-no, sofar-yes}
 use Rattle.truth.proofs.structure.signal_row.Statement.{statement}
 use Rattle.truth.proofs.structure.signal_row.Tie as tie
 
@@ -16,10 +15,10 @@ abbrev μ-loop : tie.MeasureT-loop
 μ-loop m i n out₀ s₀ out s = n - s
 
 nodes-requires : tie.Need-nodes-requires Inv-loop μ-loop
-nodes-requires c κs = search needs
+nodes-requires c κs = omega arith
 
 empty-requires : tie.Need-empty-requires Inv-loop μ-loop
-empty-requires c κs = search needs
+empty-requires c κs = omega arith
 
 loop-holds : tie.Need-loop-holds Inv-loop μ-loop
 loop-holds c =
@@ -27,16 +26,16 @@ loop-holds c =
     (omega arith, λ i. c .empty .ensures i ∙ sym (sofar-none (signalAt (a .m .now) (a .i)) i))
 
 add-s : tie.Need-add-s Inv-loop μ-loop
-add-s c = search needs
+add-s c = omega arith
 
 signal-at-requires : tie.Need-signal-at-requires Inv-loop μ-loop
-signal-at-requires c κs = search needs
+signal-at-requires c κs = omega arith
 
 with-requires : tie.Need-with-requires Inv-loop μ-loop
-with-requires c κs = search needs
+with-requires c κs = omega arith
 
 loop-less : tie.Need-loop-less Inv-loop μ-loop
-loop-less c = search needs
+loop-less c = omega arith
 
 loop-again : tie.Need-loop-again Inv-loop μ-loop
 loop-again c =
@@ -44,7 +43,7 @@ loop-again c =
     (omega arith, λ i. c .with .ensures i ∙ sofar-yes (signalAt (a .m .now) (a .i)) i _ _ (c .before .before .before .before .loop .inv .1 i) (sym (c .before .before .signal-at .ensures) ∙ c .before .if1 .taken))
 
 loop-less-2 : tie.Need-loop-less-2 Inv-loop μ-loop
-loop-less-2 c = search needs
+loop-less-2 c = omega arith
 
 loop-again-2 : tie.Need-loop-again-2 Inv-loop μ-loop
 loop-again-2 c =

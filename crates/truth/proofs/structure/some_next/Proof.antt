@@ -1,10 +1,9 @@
-use mathlib.Core.Path.{_≡_, sym, ap, _∙_}
-use borrow.Author.Needs.{needs}
+use mathlib.Core.Path.{_≡_, sym, _∙_}
 use native.Mathlib.Omega.{arith}
 use Prim.Native.Nat.{ℕ, _-_, _≤_}
 use Rattle.sheets.specs.Machine.{nodes}
 use Rattle.truth.specs.Rows.{leadsInto, rowHas}
-use Rattle.truth.proofs.NodeLoops.{sofar, sofar-none, sofar-no, sofar-yes}
+use Rattle.truth.proofs.structure.NodeLoops.{sofar, sofar-none, sofar-no, sofar-yes}
 use Rattle.truth.proofs.structure.some_next.Statement.{statement}
 use Rattle.truth.proofs.structure.some_next.Tie as tie
 
@@ -15,10 +14,10 @@ abbrev μ-loop : tie.MeasureT-loop
 μ-loop m row n out₀ s₀ out s = n - s
 
 nodes-requires : tie.Need-nodes-requires Inv-loop μ-loop
-nodes-requires c κs = search needs
+nodes-requires c κs = omega arith
 
 empty-requires : tie.Need-empty-requires Inv-loop μ-loop
-empty-requires c κs = search needs
+empty-requires c κs = omega arith
 
 loop-holds : tie.Need-loop-holds Inv-loop μ-loop
 loop-holds c =
@@ -26,16 +25,16 @@ loop-holds c =
     (omega arith, λ i. c .empty .ensures i ∙ sym (sofar-none (leadsInto (a .m .now) (rowHas (a .row))) i))
 
 add-s : tie.Need-add-s Inv-loop μ-loop
-add-s c = search needs
+add-s c = omega arith
 
 leads-into-requires : tie.Need-leads-into-requires Inv-loop μ-loop
-leads-into-requires c κs = search needs
+leads-into-requires c κs = omega arith
 
 with-requires : tie.Need-with-requires Inv-loop μ-loop
-with-requires c κs = search needs
+with-requires c κs = omega arith
 
 loop-less : tie.Need-loop-less Inv-loop μ-loop
-loop-less c = search needs
+loop-less c = omega arith
 
 loop-again : tie.Need-loop-again Inv-loop μ-loop
 loop-again c =
@@ -43,7 +42,7 @@ loop-again c =
     (omega arith, λ i. c .with .ensures i ∙ sofar-yes (leadsInto (a .m .now) (rowHas (a .row))) i _ _ (c .before .before .before .before .loop .inv .1 i) (sym (c .before .before .leads-into .ensures) ∙ c .before .if1 .taken))
 
 loop-less-2 : tie.Need-loop-less-2 Inv-loop μ-loop
-loop-less-2 c = search needs
+loop-less-2 c = omega arith
 
 loop-again-2 : tie.Need-loop-again-2 Inv-loop μ-loop
 loop-again-2 c =

@@ -1,13 +1,12 @@
 -- `start_row` meets its contract. The invariant: the row has the nodes up to s with the start flag. The measure is the nodes left.
 use mathlib.Core.Path.{_≡_, sym, _∙_}
-use borrow.Author.Needs.{needs}
 use borrow.Author.Tests.{eq-eqb, ne-eqb}
 use native.Mathlib.Omega.{arith}
 use Prim.Native.Nat.{ℕ, _-_, _≤_}
 use lib.Dec.{eqb}
 use Rattle.sheets.specs.Machine.{nodes, startFlag}
 use Rattle.truth.specs.Rows.{rowHas}
-use Rattle.truth.proofs.NodeLoops.{sofar, sofar-none, sofar-no, sofar-yes}
+use Rattle.truth.proofs.structure.NodeLoops.{sofar, sofar-none, sofar-no, sofar-yes}
 use Rattle.truth.proofs.structure.start_row.Statement.{statement}
 use Rattle.truth.proofs.structure.start_row.Tie as tie
 
@@ -18,10 +17,10 @@ abbrev μ-loop : tie.MeasureT-loop
 μ-loop m n out₀ s₀ out s = n - s
 
 nodes-requires : tie.Need-nodes-requires Inv-loop μ-loop
-nodes-requires c κs = search needs
+nodes-requires c κs = omega arith
 
 empty-requires : tie.Need-empty-requires Inv-loop μ-loop
-empty-requires c κs = search needs
+empty-requires c κs = omega arith
 
 loop-holds : tie.Need-loop-holds Inv-loop μ-loop
 loop-holds c =
@@ -29,16 +28,16 @@ loop-holds c =
     (omega arith, λ i. c .empty .ensures i ∙ sym (sofar-none (λ k. eqb (startFlag (a .m .now) k) 1) i))
 
 add-s : tie.Need-add-s Inv-loop μ-loop
-add-s c = search needs
+add-s c = omega arith
 
 node-word-requires : tie.Need-node-word-requires Inv-loop μ-loop
-node-word-requires c κs = search needs
+node-word-requires c κs = omega arith
 
 with-requires : tie.Need-with-requires Inv-loop μ-loop
-with-requires c κs = search needs
+with-requires c κs = omega arith
 
 loop-less : tie.Need-loop-less Inv-loop μ-loop
-loop-less c = search needs
+loop-less c = omega arith
 
 loop-again : tie.Need-loop-again Inv-loop μ-loop
 unfolding startFlag
@@ -47,7 +46,7 @@ loop-again c =
     (omega arith, λ i. c .with .ensures i ∙ sofar-yes (λ k. eqb (startFlag (a .m .now) k) 1) i _ _ (c .before .before .before .before .loop .inv .1 i) (eq-eqb _ 1 (sym (c .before .before .node-word .ensures) ∙ c .before .if1 .taken)))
 
 loop-less-2 : tie.Need-loop-less-2 Inv-loop μ-loop
-loop-less-2 c = search needs
+loop-less-2 c = omega arith
 
 loop-again-2 : tie.Need-loop-again-2 Inv-loop μ-loop
 unfolding startFlag

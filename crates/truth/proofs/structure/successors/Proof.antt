@@ -1,58 +1,62 @@
 -- `successors` meets its contract. The invariant: the first s rows have the successors of the nodes 1 to s. The measure is the nodes left.
 use borrow.Author.Needs.{needs}
 use borrow.Author.Tests.{ltb-false}
-use mathlib.Core.Bool.{_&&_}
-use Prim.Native.Nat.{_-_}
+use mathlib.Core.Bool.{Bool, _&&_}
+use mathlib.Core.Path.{_≡_}
+use mathlib.Core.List.{List}
+use Prim.Native.Nat.{ℕ, _+_, _-_}
 use native.Mathlib.Omega.{arith}
 use Rattle.sheets.specs.Words.{within}
 use Rattle.sheets.specs.Machine.{kripke}
-use Rattle.truth.proofs.TableLoops.{Filled, filled-none, filled-more}
+use Rattle.truth.proofs.tables.TableLaws.{Filled, filled-none, filled-more}
 use Rattle.truth.proofs.structure.successors.Statement.{statement}
 use Rattle.truth.proofs.structure.successors.Tie as tie
 
+-- whether node i + 1 has an edge to t
+abbrev Next : List ℕ → ℕ → ℕ → Bool → Type 0
+Next m i t b = b ≡ (within 1 128 t && kripke m .edge (i + 1) t)
+
 abbrev Inv-loop : tie.InvT-loop
-Inv-loop m n out₀ s₀ out s = Filled out s (λ s t. within 1 128 t && kripke m .edge s t)
+Inv-loop m n out₀ s₀ out s = Filled (Next m) s out
 
 abbrev μ-loop : tie.MeasureT-loop
 μ-loop m n out₀ s₀ out s = n - s
 
 nodes-requires : tie.Need-nodes-requires Inv-loop μ-loop
-nodes-requires c κs = search needs
+nodes-requires c κs = omega arith
 
 loop-holds : tie.Need-loop-holds Inv-loop μ-loop
-loop-holds c =
-    let a = c .before .before .args in
-    filled-none (λ s t. within 1 128 t && kripke (a .m .now) .edge s t) _ (search needs)
+loop-holds c = filled-none (Next (c .before .before .args .m .now)) _ (search needs)
 
 add-successor-row : tie.Need-add-successor-row Inv-loop μ-loop
-add-successor-row c = search needs
+add-successor-row c = omega arith
 
 successor-row-requires : tie.Need-successor-row-requires Inv-loop μ-loop
-successor-row-requires c κs = search needs
+successor-row-requires c κs = omega arith
 
 cast-store : tie.Need-cast-store Inv-loop μ-loop
-cast-store c = search needs
+cast-store c = omega arith
 
 store-requires : tie.Need-store-requires Inv-loop μ-loop
 store-requires c κs = search needs
 
 add-s : tie.Need-add-s Inv-loop μ-loop
-add-s c = search needs
+add-s c = omega arith
 
 loop-less : tie.Need-loop-less Inv-loop μ-loop
-loop-less c = search needs
+loop-less c = omega arith
 
 loop-again : tie.Need-loop-again Inv-loop μ-loop
 loop-again c =
     let a = c .before .before .before .before .before .before .before .before .args in
     let at = c .before .before .before .before .before .loop in
-    filled-more (λ s t. within 1 128 t && kripke (a .m .now) .edge s t) (at .out) _ (at .s) _ _ (at .inv) (search needs) (c .store .ensures) (c .before .before .successor-row .ensures)
+    filled-more (Next (a .m .now)) (at .out) _ (at .s) _ _ (at .inv) (search needs) (c .store .ensures) (c .before .before .successor-row .ensures)
 
 returns : tie.Need-returns Inv-loop μ-loop
-returns c s t l n m = c .before .before .loop .inv .rows s t l (omega (arith, ltb-false))
+returns c s t l n m = let e : s - 1 + 1 ≡ s = omega arith in rw e at (c .before .before .loop .inv .rows (s - 1) t (omega (arith, ltb-false)))
 
 returns-2 : tie.Need-returns-2 Inv-loop μ-loop
-returns-2 c s t l n m = c .before .loop .inv .rows s t l (omega (arith, c .before .before .nodes .ensures))
+returns-2 c s t l n m = let e : s - 1 + 1 ≡ s = omega arith in rw e at (c .before .loop .inv .rows (s - 1) t (omega (arith, c .before .before .nodes .ensures)))
 
 pub successors-spec : {M : Type 1} → statement M
 successors-spec =

@@ -5,22 +5,22 @@ use Rattle.truth.proofs.tables.set_line_row.Statement.{statement}
 use Rattle.truth.proofs.tables.set_line_row.Tie as tie
 
 sub-k : tie.Need-sub-k
-sub-k c = search needs
+sub-k c = omega arith
 
 mul-k : tie.Need-mul-k
-mul-k c = search needs
+mul-k c = omega arith
 
 mul-rows : tie.Need-mul-rows
-mul-rows c = search needs
+mul-rows c = omega arith
 
 slice-write-rows : tie.Need-slice-write-rows
-slice-write-rows c = search needs
+slice-write-rows c = omega arith
 
 add-rows : tie.Need-add-rows
-add-rows c = search needs
+add-rows c = omega arith
 
 mul-rows-2 : tie.Need-mul-rows-2
-mul-rows-2 c = search needs
+mul-rows-2 c = omega arith
 
 slice-write-rows-2 : tie.Need-slice-write-rows-2
 slice-write-rows-2 c = simp length-set (omega arith)

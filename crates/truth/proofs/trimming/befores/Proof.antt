@@ -1,41 +1,39 @@
 -- `befores` meets its contract. The invariant: the rows below k have what is before theirs. The measure is what is left of the positions.
 use borrow.Author.Needs.{needs}
-use mathlib.Core.Path.{_≡_, _∙_}
+use mathlib.Core.Path.{_≡_}
 use mathlib.Core.Logic.{_↔_}
-use Prim.Native.Nat.{ℕ, _+_, _*_, _≤_, _<_, _-_}
+use Prim.Native.Nat.{ℕ, _≤_, _-_}
 use native.Mathlib.Omega.{arith}
 use lib.Dec.{T}
-use lib.ListN.{length}
 use Rattle.truth.specs.Rows.{rowHas, rowsHas}
-use Rattle.truth.specs.Trimmed.{Before}
-use Rattle.truth.proofs.TableLaws.{stored-length}
-use Rattle.truth.proofs.TrimTaken.{filled-next}
+use Rattle.truth.specs.Pairs.{Before}
+use Rattle.truth.proofs.tables.TableLaws.{Filled, filled-none, filled-more}
 use Rattle.truth.proofs.trimming.befores.Statement.{statement}
 use Rattle.truth.proofs.trimming.befores.Tie as tie
 
 abbrev Inv-loop : tie.InvT-loop
-Inv-loop back t xs out₀ k₀ out k = (k ≤ t) × (length out ≡ 512) × ((j s : ℕ) → j < k → T (rowsHas out j s) ↔ Before back (rowsHas xs j) s)
+Inv-loop back t xs out₀ k₀ out k = (k ≤ t) × Filled (λ j s b. T b ↔ Before back (rowsHas xs j) s) k out
 
 abbrev μ-loop : tie.MeasureT-loop
 μ-loop back t xs out₀ k₀ out k = t - k
 
 loop-holds : tie.Need-loop-holds Inv-loop μ-loop
-loop-holds c = (search needs, search needs, λ j s l. absurd (omega arith))
+loop-holds c = (search needs, filled-none _ _ (search needs))
 
 load-requires : tie.Need-load-requires Inv-loop μ-loop
-load-requires c κs = search needs
+load-requires c κs = omega arith
 
 before-requires : tie.Need-before-requires Inv-loop μ-loop
-before-requires c κs = search needs
+before-requires c κs = omega arith
 
 store-requires : tie.Need-store-requires Inv-loop μ-loop
-store-requires c κs = search needs
+store-requires c κs = omega arith
 
 add-k : tie.Need-add-k Inv-loop μ-loop
-add-k c = search needs
+add-k c = omega arith
 
 loop-less : tie.Need-loop-less Inv-loop μ-loop
-loop-less c = search needs
+loop-less c = omega arith
 
 loop-again : tie.Need-loop-again Inv-loop μ-loop
 loop-again c =
@@ -43,17 +41,13 @@ loop-again c =
     let at = c .before .before .before .before .before .loop in
     let row = c .before .before .before .load .ensures in
     let pre = c .before .before .before2 in
-    let long : 2 * at .k + 1 < length (at .out) = omega arith in
-    let here : (s : ℕ) → T (rowHas (pre .result) s) ↔ Before (a .back .now) (rowsHas (a .xs .now) (at .k)) s = rw (row .0, row .1) at (pre .ensures) in (
-      search needs,
-      rw (c .store .ensures) (stored-length (at .out) (at .k) (pre .result .low) (pre .result .high) long ∙ at .inv .1),
-      rw (c .store .ensures) (filled-next (at .out) (at .k) _ _ long (λ j. Before (a .back .now) (rowsHas (a .xs .now) j)) (at .inv .2) here),
-    )
+    let here : (s : ℕ) → T (rowHas (pre .result) s) ↔ Before (a .back .now) (rowsHas (a .xs .now) (at .k)) s = rw (row .0, row .1) at (pre .ensures) in
+    (search needs, filled-more _ (at .out) _ (at .k) _ _ (at .inv .1) (omega arith) (c .store .ensures) here)
 
 returns : tie.Need-returns Inv-loop μ-loop
 returns c =
     let e : c .before .loop .k ≡ c .before .before .args .t = omega arith in
-    rw e at (c .before .loop .inv .2)
+    λ k s l. c .before .loop .inv .1 .rows k s (rw e l)
 
 pub befores-spec : {M : Type 1} → statement M
 befores-spec =

@@ -7,7 +7,7 @@ use mathlib.Core.Logic.{_↔_}
 use lib.Dec.{T}
 use Rattle.truth.specs.Rows.{rowHas}
 use Rattle.truth.specs.Trimmed.{SomeBelow}
-use Rattle.truth.proofs.TrimSteps.{Through, below-none, through-next}
+use Rattle.truth.proofs.trimming.TrimSteps.{Through, below-none, through-next}
 use Rattle.truth.proofs.trimming.goes_on.Statement.{statement}
 use Rattle.truth.proofs.trimming.goes_on.Tie as tie
 
@@ -18,34 +18,34 @@ abbrev μ-loop : tie.MeasureT-loop
 μ-loop allow table t p out₀ k₀ out k = t - k
 
 empty-requires : tie.Need-empty-requires Inv-loop μ-loop
-empty-requires c κs = search needs
+empty-requires c κs = omega arith
 
 loop-holds : tie.Need-loop-holds Inv-loop μ-loop
 loop-holds c = (search needs, λ s. (λ t. absurd (rw (c .empty .ensures s) at t), λ r. absurd (below-none _ r)))
 
 mul-load : tie.Need-mul-load Inv-loop μ-loop
-mul-load c = search needs
+mul-load c = omega arith
 
 add-load : tie.Need-add-load Inv-loop μ-loop
-add-load c = search needs
+add-load c = omega arith
 
 load-requires : tie.Need-load-requires Inv-loop μ-loop
-load-requires c κs = search needs
+load-requires c κs = omega arith
 
 load-requires-2 : tie.Need-load-requires-2 Inv-loop μ-loop
-load-requires-2 c κs = search needs
+load-requires-2 c κs = omega arith
 
 intersection-requires : tie.Need-intersection-requires Inv-loop μ-loop
-intersection-requires c κs = search needs
+intersection-requires c κs = omega arith
 
 union-requires : tie.Need-union-requires Inv-loop μ-loop
-union-requires c κs = search needs
+union-requires c κs = omega arith
 
 add-k : tie.Need-add-k Inv-loop μ-loop
-add-k c = search needs
+add-k c = omega arith
 
 loop-less : tie.Need-loop-less Inv-loop μ-loop
-loop-less c = search needs
+loop-less c = omega arith
 
 loop-again : tie.Need-loop-again Inv-loop μ-loop
 loop-again c =

@@ -1,24 +1,24 @@
 -- `start_row` meets its contract: what is taken out has nothing ahead.
-use borrow.Author.Needs.{needs}
 use mathlib.Core.Path.{_≡_, _∙_}
 use Prim.Native.Nat.{ℕ}
 use mathlib.Core.Bool.{not, _&&_}
+use native.Mathlib.Omega.{arith}
 use Rattle.truth.specs.Rows.{rowHas, rowsHas}
-use Rattle.truth.proofs.TrimStart.{started-next}
+use Rattle.truth.proofs.trimming.TrimStart.{started-next}
 use Rattle.truth.proofs.trimming.start_row.Statement.{statement}
 use Rattle.truth.proofs.trimming.start_row.Tie as tie
 
 goes-on-requires : tie.Need-goes-on-requires
-goes-on-requires c κs = search needs
+goes-on-requires c κs = omega arith
 
 load-requires : tie.Need-load-requires
-load-requires c κs = search needs
+load-requires c κs = omega arith
 
 difference-requires : tie.Need-difference-requires
-difference-requires c κs = search needs
+difference-requires c κs = omega arith
 
 take-out-requires : tie.Need-take-out-requires
-take-out-requires c κs = search needs
+take-out-requires c κs = omega arith
 
 returns : tie.Need-returns
 returns c =
@@ -30,7 +30,7 @@ returns c =
     let k = c .take-out .ensures in
     let lost : (s : ℕ) → rowHas (d .result) s ≡ (rowsHas (a .xs .now) (a .p) s && not (rowHas (on .result) s)) = λ s. rw (row .0, row .1) at (d .ensures s) in (
       λ back first is g.
-          started-next (a .allow .now) back (a .table .now) (a .t) (a .p) first (a .xs .now) (a .gone .now) _ _ (rowHas (on .result)) (rowHas (d .result)) is
+          started-next (a .table .now) (rowHas (on .result)) is
           (on .ensures) lost k g,
       (k .size ∙ start .pre .2, k .size-gone ∙ start .pre .3),
     )

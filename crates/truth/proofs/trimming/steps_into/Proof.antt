@@ -4,7 +4,7 @@ use mathlib.Core.Path.{_≡_}
 use Prim.Native.Nat.{_≤_, _-_}
 use native.Mathlib.Omega.{arith}
 use Rattle.truth.specs.Trimmed.{SomeBelow}
-use Rattle.truth.proofs.TrimSteps.{Meeting, below-none, below-no, allowed-not, meeting-yes, meeting-not}
+use Rattle.truth.proofs.trimming.TrimSteps.{Meeting, below-none, below-no, allowed-not, meeting-yes, meeting-not}
 use Rattle.truth.proofs.trimming.steps_into.Statement.{statement}
 use Rattle.truth.proofs.trimming.steps_into.Tie as tie
 
@@ -18,25 +18,25 @@ loop-holds : tie.Need-loop-holds Inv-loop μ-loop
 loop-holds c = (search needs, below-none _)
 
 add-k : tie.Need-add-k Inv-loop μ-loop
-add-k c = search needs
+add-k c = omega arith
 
 mul-load : tie.Need-mul-load Inv-loop μ-loop
-mul-load c = search needs
+mul-load c = omega arith
 
 add-load : tie.Need-add-load Inv-loop μ-loop
-add-load c = search needs
+add-load c = omega arith
 
 load-requires : tie.Need-load-requires Inv-loop μ-loop
-load-requires c κs = search needs
+load-requires c κs = omega arith
 
 has-requires : tie.Need-has-requires Inv-loop μ-loop
-has-requires c κs = search needs
+has-requires c κs = omega arith
 
 load-requires-2 : tie.Need-load-requires-2 Inv-loop μ-loop
-load-requires-2 c κs = search needs
+load-requires-2 c κs = omega arith
 
 meets-requires : tie.Need-meets-requires Inv-loop μ-loop
-meets-requires c κs = search needs
+meets-requires c κs = omega arith
 
 returns : tie.Need-returns Inv-loop μ-loop
 returns c =
@@ -48,7 +48,7 @@ returns c =
     (λ _. (k, omega arith, met), λ _. tt)
 
 loop-less : tie.Need-loop-less Inv-loop μ-loop
-loop-less c = search needs
+loop-less c = omega arith
 
 loop-again : tie.Need-loop-again Inv-loop μ-loop
 loop-again c =
@@ -60,7 +60,7 @@ loop-again c =
     (search needs, below-no _ (at .k) (at .inv .1) not-met)
 
 loop-less-2 : tie.Need-loop-less-2 Inv-loop μ-loop
-loop-less-2 c = search needs
+loop-less-2 c = omega arith
 
 loop-again-2 : tie.Need-loop-again-2 Inv-loop μ-loop
 loop-again-2 c =

@@ -1,20 +1,20 @@
 -- `steps_on` meets its contract: a step to p2, or one to any position.
-use borrow.Author.Needs.{needs}
-use Rattle.truth.proofs.TrimSteps.{meeting-onward, onward-meeting, meets-onward}
+use native.Mathlib.Omega.{arith}
+use Rattle.truth.proofs.trimming.TrimSteps.{meeting-onward, onward-meeting, meets-onward}
 use Rattle.truth.proofs.trimming.steps_on.Statement.{statement}
 use Rattle.truth.proofs.trimming.steps_on.Tie as tie
 
 sub-load : tie.Need-sub-load
-sub-load c = search needs
+sub-load c = omega arith
 
 load-requires : tie.Need-load-requires
-load-requires c κs = search needs
+load-requires c κs = omega arith
 
 load-requires-2 : tie.Need-load-requires-2
-load-requires-2 c κs = search needs
+load-requires-2 c κs = omega arith
 
 meets-requires : tie.Need-meets-requires
-meets-requires c κs = search needs
+meets-requires c κs = omega arith
 
 returns : tie.Need-returns
 returns c =
@@ -26,7 +26,7 @@ returns c =
     (λ _. on, λ _. tt)
 
 steps-into-requires : tie.Need-steps-into-requires
-steps-into-requires c κs = search needs
+steps-into-requires c κs = omega arith
 
 returns-2 : tie.Need-returns-2
 returns-2 c =

@@ -1,32 +1,31 @@
 -- `take_out` meets its contract: a store in each of the two tables.
-use borrow.Author.Needs.{needs}
 use mathlib.Core.Path.{_≡_}
 use Prim.Native.Nat.{ℕ, _+_, _*_, _<_}
 use native.Mathlib.Omega.{arith}
 use mathlib.Core.Bool.{not, _&&_, _||_}
 use lib.ListN.{length}
 use Rattle.truth.specs.Rows.{rowHas, rowsHas}
-use Rattle.truth.proofs.TrimTaken.{taken}
+use Rattle.truth.proofs.trimming.TrimTaken.{taken}
 use Rattle.truth.proofs.trimming.take_out.Statement.{statement}
 use Rattle.truth.proofs.trimming.take_out.Tie as tie
 
 load-requires : tie.Need-load-requires
-load-requires c κs = search needs
+load-requires c κs = omega arith
 
 difference-requires : tie.Need-difference-requires
-difference-requires c κs = search needs
+difference-requires c κs = omega arith
 
 store-requires : tie.Need-store-requires
-store-requires c κs = search needs
+store-requires c κs = omega arith
 
 load-requires-2 : tie.Need-load-requires-2
-load-requires-2 c κs = search needs
+load-requires-2 c κs = omega arith
 
 union-requires : tie.Need-union-requires
-union-requires c κs = search needs
+union-requires c κs = omega arith
 
 store-requires-2 : tie.Need-store-requires-2
-store-requires-2 c κs = search needs
+store-requires-2 c κs = omega arith
 
 returns : tie.Need-returns
 returns c =

@@ -4,10 +4,12 @@ use borrow.Author.Tests.{not-true, not-false}
 use mathlib.Core.Path.{_≡_, refl, _∙_}
 use mathlib.Core.Bool.{Bool, true, false}
 use lib.ListN.{length}
-use Rattle.truth.specs.Trimmed.{weight, Trimmed}
-use Rattle.truth.proofs.TrimStart.{zero-rows}
-use Rattle.truth.proofs.TrimGone.{trimmed-idle}
-use Rattle.truth.proofs.TrimRounds.{trimmed-yes, trimmed-no, greatest}
+use Rattle.truth.specs.Rows.{rowsHas}
+use Rattle.truth.specs.Pairs.{weight}
+use Rattle.truth.specs.Trimmed.{Trimmed}
+use Rattle.truth.proofs.tables.TableLaws.{zero-row}
+use Rattle.truth.proofs.trimming.TrimGone.{trimmed-idle}
+use Rattle.truth.proofs.trimming.TrimRounds.{trimmed-yes, trimmed-no, greatest}
 use Rattle.truth.proofs.trimming.trim.Statement.{statement}
 use Rattle.truth.proofs.trimming.trim.Tie as tie
 
@@ -15,27 +17,27 @@ abbrev Inv-loop : tie.InvT-loop
 Inv-loop allow next back t rows₀ gone₀ rows gone = (b : Bool) × Trimmed allow next back t rows₀ gone₀ rows gone b
 
 abbrev μ-loop : tie.MeasureT-loop
-μ-loop allow next back t rows₀ gone₀ rows gone = weight t rows gone
+μ-loop allow next back t rows₀ gone₀ rows gone = weight t (rowsHas rows) (rowsHas gone)
 
 trim-first-requires : tie.Need-trim-first-requires Inv-loop μ-loop
-trim-first-requires c κs = (search needs, search needs, refl, zero-rows)
+trim-first-requires c κs = (search needs, search needs, refl, λ p s x. rw (zero-row 512 p s) at x)
 
 loop-holds : tie.Need-loop-holds Inv-loop μ-loop
-loop-holds c = (false, trimmed-idle _ _ _ _ 0 _ _)
+loop-holds c = (false, trimmed-idle)
 
 trim-round-requires : tie.Need-trim-round-requires Inv-loop μ-loop
 trim-round-requires c κs =
     let first = c .before .before .before .trim-first .ensures in
     let g = c .before .before .loop .inv .1 in
     let long : length (c .before .before .before .before .before .before .args .xs) ≡ 512 = search needs in
-    (search needs, g .size ∙ first .0 .size ∙ long, g .size-gone ∙ first .1)
+    (search needs, g .shrunk .size ∙ first .0 .size ∙ long, g .shrunk .size-gone ∙ first .1)
 
 returns : tie.Need-returns Inv-loop μ-loop
 returns c =
     let r = c .before .trim-round in
     let e : r .result ≡ false = not-true (r .result) (c .if1 .taken) in
-    let g = trimmed-no _ _ _ _ _ _ _ _ _ _ _ _ (c .before .before .before .before .loop .inv .1) (r .ensures .0) e in
-    λ n small tr stays up above. greatest _ _ _ _ _ _ _ _ _ _ (c .before .before .before .before .before .trim-first .ensures .0) g (r .ensures .1 e) n tr above
+    let g = trimmed-no (c .before .before .before .before .loop .inv .1) (r .ensures .0) e in
+    λ n tr up. greatest (c .before .before .before .before .before .trim-first .ensures .0) g (r .ensures .1 e) n tr up
 
 loop-less : tie.Need-loop-less Inv-loop μ-loop
 loop-less c =
@@ -45,7 +47,7 @@ loop-less c =
 loop-again : tie.Need-loop-again Inv-loop μ-loop
 loop-again c =
     let r = c .before .trim-round in
-    (true, trimmed-yes _ _ _ _ _ _ _ _ _ _ _ _ (c .before .before .before .before .loop .inv .1) (r .ensures .0) (not-false (r .result) (c .if1 .left)))
+    (true, trimmed-yes (c .before .before .before .before .loop .inv .1) (r .ensures .0) (not-false (r .result) (c .if1 .left)))
 
 pub trim-spec : {M : Type 1} → statement M
 trim-spec =

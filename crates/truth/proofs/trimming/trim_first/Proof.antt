@@ -5,7 +5,7 @@ use Prim.Native.Nat.{_≤_, _-_}
 use native.Mathlib.Omega.{arith}
 use lib.ListN.{length}
 use Rattle.truth.specs.Trimmed.{Started}
-use Rattle.truth.proofs.TrimStart.{started-none}
+use Rattle.truth.proofs.trimming.TrimStart.{started-none}
 use Rattle.truth.proofs.trimming.trim_first.Statement.{statement}
 use Rattle.truth.proofs.trimming.trim_first.Tie as tie
 
@@ -16,19 +16,19 @@ abbrev μ-loop : tie.MeasureT-loop
 μ-loop allow back t xs₀ gone₀ table p₀ xs gone p = t - p
 
 befores-requires : tie.Need-befores-requires Inv-loop μ-loop
-befores-requires c κs = search needs
+befores-requires c κs = omega arith
 
 loop-holds : tie.Need-loop-holds Inv-loop μ-loop
-loop-holds c = (search needs, c .before .before .pre .2, started-none _ _ _ _ _ (c .before .before .pre .3))
+loop-holds c = (search needs, c .before .before .pre .2, started-none (c .before .before .pre .3))
 
 start-row-requires : tie.Need-start-row-requires Inv-loop μ-loop
 start-row-requires c κs = omega (arith, c .before .before .before .before .loop .inv .2 .size)
 
 add-p : tie.Need-add-p Inv-loop μ-loop
-add-p c = search needs
+add-p c = omega arith
 
 loop-less : tie.Need-loop-less Inv-loop μ-loop
-loop-less c = search needs
+loop-less c = omega arith
 
 loop-again : tie.Need-loop-again Inv-loop μ-loop
 loop-again c =

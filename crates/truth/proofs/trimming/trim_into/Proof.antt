@@ -4,7 +4,7 @@ use Prim.Native.Nat.{ℕ, _≤_, _<_, _-_}
 use native.Mathlib.Omega.{arith}
 use Rattle.truth.specs.Rows.{rowHas}
 use Rattle.truth.specs.Trimmed.{Moved, OwingTo}
-use Rattle.truth.proofs.TrimMoves.{moved-none, moved-more, owing-next}
+use Rattle.truth.proofs.trimming.TrimMoves.{moved-none, moved-more, owing-next}
 use Rattle.truth.proofs.trimming.trim_into.Statement.{statement}
 use Rattle.truth.proofs.trimming.trim_into.Tie as tie
 
@@ -15,24 +15,24 @@ abbrev μ-loop : tie.MeasureT-loop
 μ-loop allow next t p2 pre xs₀ gone₀ p₀ xs gone p = t - p
 
 loop-holds : tie.Need-loop-holds Inv-loop μ-loop
-loop-holds c = (search needs, moved-none _ _ _ _ _, λ q l. absurd (omega arith))
+loop-holds c = (search needs, moved-none, λ q l. absurd (omega arith))
 
 trim-row-requires : tie.Need-trim-row-requires Inv-loop μ-loop
 trim-row-requires c κs =
-    let m = c .before .before .before .loop .inv .1 in
+    let m = c .before .before .before .loop .inv .1 .shrunk in
     omega (arith, m .size, m .size-gone)
 
 add-p : tie.Need-add-p Inv-loop μ-loop
-add-p c = search needs
+add-p c = omega arith
 
 loop-less : tie.Need-loop-less Inv-loop μ-loop
-loop-less c = search needs
+loop-less c = omega arith
 
 loop-again : tie.Need-loop-again Inv-loop μ-loop
 loop-again c =
     let at = c .before .before .before .before .loop in
     let r = c .trim-row .ensures in
-    (search needs, moved-more _ _ _ _ _ _ _ (at .inv .1) _ _ (r .0), owing-next _ _ _ (at .p) _ (rowHas (c .before .before .before .before .before .args .pre)) _ _ _ _ (r .0) (at .inv .2) (r .1))
+    (search needs, moved-more (at .inv .1) (r .0), owing-next (at .p) _ (rowHas (c .before .before .before .before .before .args .pre)) (r .0) (at .inv .2) (r .1))
 
 returns : tie.Need-returns Inv-loop μ-loop
 returns c = (c .before .loop .inv .1, λ p l. c .before .loop .inv .2 p (omega arith))

@@ -2,7 +2,7 @@
 use borrow.Author.Needs.{needs}
 use Prim.Native.Nat.{_≤_, _-_}
 use native.Mathlib.Omega.{arith}
-use Rattle.truth.proofs.TrimRounds.{Round, round-none, round-yes, round-no}
+use Rattle.truth.proofs.trimming.TrimRounds.{Round, round-none, round-yes, round-no}
 use Rattle.truth.proofs.trimming.trim_round.Statement.{statement}
 use Rattle.truth.proofs.trimming.trim_round.Tie as tie
 
@@ -13,31 +13,31 @@ abbrev μ-loop : tie.MeasureT-loop
 μ-loop allow next back t xs₀ gone₀ changed₀ k₀ xs gone changed k = t - k
 
 loop-holds : tie.Need-loop-holds Inv-loop μ-loop
-loop-holds c = (search needs, round-none _ _ _ _ _ _)
+loop-holds c = (search needs, round-none)
 
 add-k : tie.Need-add-k Inv-loop μ-loop
-add-k c = search needs
+add-k c = omega arith
 
 trim-from-requires : tie.Need-trim-from-requires Inv-loop μ-loop
 trim-from-requires c κs =
-    let g = c .before .before .before .loop .inv .1 .trimmed in
+    let g = c .before .before .before .loop .inv .1 .trimmed .shrunk in
     omega (arith, g .size, g .size-gone)
 
 loop-less : tie.Need-loop-less Inv-loop μ-loop
-loop-less c = search needs
+loop-less c = omega arith
 
 loop-again : tie.Need-loop-again Inv-loop μ-loop
 loop-again c =
     let g = c .before .trim-from .ensures in
-    (search needs, round-yes _ _ _ _ _ _ _ _ _ _ _ _ _ (c .before .before .before .before .before .loop .inv .1) (g .0) (g .1) (c .if1 .taken))
+    (search needs, round-yes (c .before .before .before .before .before .loop .inv .1) (g .0) (g .1) (c .if1 .taken))
 
 loop-less-2 : tie.Need-loop-less-2 Inv-loop μ-loop
-loop-less-2 c = search needs
+loop-less-2 c = omega arith
 
 loop-again-2 : tie.Need-loop-again-2 Inv-loop μ-loop
 loop-again-2 c =
     let g = c .before .trim-from .ensures in
-    (search needs, round-no _ _ _ _ _ _ _ _ _ _ _ _ _ (c .before .before .before .before .before .loop .inv .1) (g .0) (g .1) (c .if1 .left))
+    (search needs, round-no (c .before .before .before .before .before .loop .inv .1) (g .0) (g .1) (c .if1 .left))
 
 returns : tie.Need-returns Inv-loop μ-loop
 returns c = (c .before .loop .inv .1 .trimmed, λ y p l. c .before .loop .inv .1 .none y p (omega arith))

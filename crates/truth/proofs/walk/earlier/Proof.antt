@@ -1,12 +1,12 @@
 -- `earlier` meets its contract. The invariant: what is left of the row has all its nodes with an earlier time. The measure is how many are left.
-use borrow.Author.Needs.{needs}
 use native.Mathlib.Omega.{arith}
 use borrow.Author.Tests.{lt-ltb, le-ltb}
 use lib.Dec.{ltb}
 use Rattle.sheets.proofs.Counting.{number}
 use Rattle.truth.specs.Rows.{rowHas}
 use Rattle.truth.specs.Pairs.{timeOf}
-use Rattle.truth.proofs.StepSearch.{Left, left-all, left-none, left-found, left-out, left-fewer, found-range}
+use Rattle.truth.proofs.rows.RowWalks.{one-left, one-within, less-falls}
+use Rattle.truth.proofs.walk.StepSearch.{Left, left-all, left-none, left-found, left-out}
 use Rattle.truth.proofs.walk.earlier.Statement.{statement}
 use Rattle.truth.proofs.walk.earlier.Tie as tie
 
@@ -20,28 +20,28 @@ loop-holds : tie.Need-loop-holds Inv-loop μ-loop
 loop-holds c = left-all _ _
 
 first-requires : tie.Need-first-requires Inv-loop μ-loop
-first-requires c κs = search needs
+first-requires c κs = omega arith
 
 returns : tie.Need-returns Inv-loop μ-loop
 returns c = left-none _ _ _ _ (c .before .before .loop .inv) (c .before .first .ensures) (c .if1 .taken)
 
 mul-if2 : tie.Need-mul-if2 Inv-loop μ-loop
-mul-if2 c = search needs
+mul-if2 c = omega arith
 
 cast-if2 : tie.Need-cast-if2 Inv-loop μ-loop
-cast-if2 c = search needs
+cast-if2 c = omega arith
 
 sub-if2 : tie.Need-sub-if2 Inv-loop μ-loop
-sub-if2 c = search needs
+sub-if2 c = omega arith
 
 add-if2 : tie.Need-add-if2 Inv-loop μ-loop
-add-if2 c = omega (arith, found-range _ _ _ (c .before .first .ensures) (c .if1 .left))
+add-if2 c = omega (arith, one-within _ _ _ (c .before .first .ensures) (c .if1 .left))
 
 mul-if2-2 : tie.Need-mul-if2-2 Inv-loop μ-loop
-mul-if2-2 c = omega (arith, found-range _ _ _ (c .before .first .ensures) (c .if1 .left))
+mul-if2-2 c = omega (arith, one-within _ _ _ (c .before .first .ensures) (c .if1 .left))
 
 element-copy-out-if2 : tie.Need-element-copy-out-if2 Inv-loop μ-loop
-element-copy-out-if2 c = omega (arith, found-range _ _ _ (c .before .first .ensures) (c .if1 .left))
+element-copy-out-if2 c = omega (arith, one-within _ _ _ (c .before .first .ensures) (c .if1 .left))
 
 returns-2 : tie.Need-returns-2 Inv-loop μ-loop
 returns-2 c =
@@ -50,14 +50,14 @@ returns-2 c =
     (lt-ltb _ _ (c .if2 .taken))
 
 without-requires : tie.Need-without-requires Inv-loop μ-loop
-without-requires c κs = search needs
+without-requires c κs = omega arith
 
 loop-less : tie.Need-loop-less Inv-loop μ-loop
 loop-less c =
-    let a = c .before .before .before .before .before .before .args in
     let first = c .before .before .before .before .first .ensures in
     let n = c .before .before .before .if1 .left in
-    left-fewer _ _ (λ v. ltb (timeOf (a .times .now) (a .k) v) (a .time)) _ (c .before .before .before .before .before .loop .inv) first n _ (c .without .ensures) (found-range _ _ _ first n .1)
+    let r = one-within _ _ _ first n in
+    less-falls _ _ _ (c .without .ensures) (r .0) (r .1) (one-left _ _ first n)
 
 loop-again : tie.Need-loop-again Inv-loop μ-loop
 loop-again c =

@@ -1,10 +1,9 @@
 -- `onward` meets its contract. The invariant: no step leads into the set at a position below k. The measure is what is left of t.
-use borrow.Author.Needs.{needs}
 use mathlib.Core.Path.{sym, _∙_}
 use Prim.Native.Nat.{_-_}
 use native.Mathlib.Omega.{arith}
 use Rattle.truth.specs.Walking.{entered}
-use Rattle.truth.proofs.StepSearch.{NoneBelow, none-first, none-next, entered-by, found-step}
+use Rattle.truth.proofs.walk.StepSearch.{NoneBelow, none-first, none-next, entered-by, found-step}
 use Rattle.truth.proofs.walk.onward.Statement.{statement}
 use Rattle.truth.proofs.walk.onward.Tie as tie
 
@@ -18,13 +17,13 @@ loop-holds : tie.Need-loop-holds Inv-loop μ-loop
 loop-holds c = none-first _
 
 reached-requires : tie.Need-reached-requires Inv-loop μ-loop
-reached-requires c κs = search needs
+reached-requires c κs = omega arith
 
 first-requires : tie.Need-first-requires Inv-loop μ-loop
-first-requires c κs = search needs
+first-requires c κs = omega arith
 
 cast-t11 : tie.Need-cast-t11 Inv-loop μ-loop
-cast-t11 c = search needs
+cast-t11 c = omega arith
 
 returns : tie.Need-returns Inv-loop μ-loop
 returns c =
@@ -33,10 +32,10 @@ returns c =
     (c .before .before .before .loop-test .taken)
 
 add-k : tie.Need-add-k Inv-loop μ-loop
-add-k c = search needs
+add-k c = omega arith
 
 loop-less : tie.Need-loop-less Inv-loop μ-loop
-loop-less c = search needs
+loop-less c = omega arith
 
 loop-again : tie.Need-loop-again Inv-loop μ-loop
 loop-again c = none-next _ _ (c .before .before .before .before .loop .inv) (λ v. sym (c .before .before .reached .ensures v) ∙ c .before .first .ensures .none (c .if1 .left) v)

@@ -1,24 +1,24 @@
 -- `reached` meets its contract: where the automaton may not go on at the node nothing is entered, and otherwise the two rows say it.
-use borrow.Author.Needs.{needs}
 use borrow.Author.Tests.{not-true, not-false}
 use mathlib.Core.Path.{sym, _∙_}
+use native.Mathlib.Omega.{arith}
 use Rattle.truth.proofs.walk.reached.Statement.{statement}
 use Rattle.truth.proofs.walk.reached.Tie as tie
 
 mul-load : tie.Need-mul-load
-mul-load c = search needs
+mul-load c = omega arith
 
 add-load : tie.Need-add-load
-add-load c = search needs
+add-load c = omega arith
 
 load-requires : tie.Need-load-requires
-load-requires c κs = search needs
+load-requires c κs = omega arith
 
 has-requires : tie.Need-has-requires
-has-requires c κs = search needs
+has-requires c κs = omega arith
 
 empty-requires : tie.Need-empty-requires
-empty-requires c κs = search needs
+empty-requires c κs = omega arith
 
 returns : tie.Need-returns
 returns c v =
@@ -27,16 +27,16 @@ returns c v =
     rw e (c .empty .ensures v)
 
 sub-load : tie.Need-sub-load
-sub-load c = search needs
+sub-load c = omega arith
 
 load-requires-2 : tie.Need-load-requires-2
-load-requires-2 c κs = search needs
+load-requires-2 c κs = omega arith
 
 load-requires-3 : tie.Need-load-requires-3
-load-requires-3 c κs = search needs
+load-requires-3 c κs = omega arith
 
 intersection-requires : tie.Need-intersection-requires
-intersection-requires c κs = search needs
+intersection-requires c κs = omega arith
 
 returns-2 : tie.Need-returns-2
 returns-2 c v =

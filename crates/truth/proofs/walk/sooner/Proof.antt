@@ -1,5 +1,4 @@
 -- `sooner` meets its contract. The invariant: no step leads to an earlier pair of the set at a position below k. The measure is what is left of t.
-use borrow.Author.Needs.{needs}
 use Prim.Native.Nat.{_-_}
 use native.Mathlib.Omega.{arith}
 use mathlib.Core.Bool.{_&&_}
@@ -7,7 +6,7 @@ use lib.Dec.{ltb, ltb→lt, lt→ltb}
 use Rattle.sheets.proofs.Tests.{and-both}
 use Rattle.truth.specs.Pairs.{timeOf}
 use Rattle.truth.specs.Walking.{entered}
-use Rattle.truth.proofs.StepSearch.{NoneBelow, none-first, none-next, none-passing, entered-by, found-passing}
+use Rattle.truth.proofs.walk.StepSearch.{NoneBelow, none-first, none-next, none-passing, entered-by, found-passing}
 use Rattle.truth.proofs.walk.sooner.Statement.{statement}
 use Rattle.truth.proofs.walk.sooner.Tie as tie
 
@@ -18,31 +17,31 @@ abbrev μ-loop : tie.MeasureT-loop
 μ-loop allow next t set times p u time k₀ k = t - k
 
 mul-time : tie.Need-mul-time Inv-loop μ-loop
-mul-time c = search needs
+mul-time c = omega arith
 
 sub-time : tie.Need-sub-time Inv-loop μ-loop
-sub-time c = search needs
+sub-time c = omega arith
 
 add-time : tie.Need-add-time Inv-loop μ-loop
-add-time c = search needs
+add-time c = omega arith
 
 mul-time-2 : tie.Need-mul-time-2 Inv-loop μ-loop
-mul-time-2 c = search needs
+mul-time-2 c = omega arith
 
 element-copy-out-time : tie.Need-element-copy-out-time Inv-loop μ-loop
-element-copy-out-time c = search needs
+element-copy-out-time c = omega arith
 
 loop-holds : tie.Need-loop-holds Inv-loop μ-loop
 loop-holds c = none-first _
 
 reached-requires : tie.Need-reached-requires Inv-loop μ-loop
-reached-requires c κs = search needs
+reached-requires c κs = omega arith
 
 earlier-requires : tie.Need-earlier-requires Inv-loop μ-loop
-earlier-requires c κs = search needs
+earlier-requires c κs = omega arith
 
 cast-t22 : tie.Need-cast-t22 Inv-loop μ-loop
-cast-t22 c = search needs
+cast-t22 c = omega arith
 
 returns : tie.Need-returns Inv-loop μ-loop
 returns c =
@@ -53,10 +52,10 @@ returns c =
     (r .0, r .1, ltb→lt _ _ (r .2))
 
 add-k : tie.Need-add-k Inv-loop μ-loop
-add-k c = search needs
+add-k c = omega arith
 
 loop-less : tie.Need-loop-less Inv-loop μ-loop
-loop-less c = search needs
+loop-less c = omega arith
 
 loop-again : tie.Need-loop-again Inv-loop μ-loop
 loop-again c =

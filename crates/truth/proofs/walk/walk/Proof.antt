@@ -1,9 +1,9 @@
 -- `walk` meets its contract. The invariant: the pairs so far are listed, and (p, u) is the last of them. The measure is how many more could be listed.
-use borrow.Author.Needs.{needs}
-use Prim.Native.Nat.{ℕ, _-_, _*_, _<_}
+use Prim.Native.Nat.{ℕ, _-_, _*_, _≤_, _<_}
 use native.Mathlib.Omega.{arith}
 use lib.ListN.{replicate, length-replicate}
-use Rattle.truth.proofs.WalkedTables.{Listing, zeros, start-range, listing-first, listing-below, listing-inside, listing-range, listing-closed, listing-room, listing-more}
+use Rattle.truth.proofs.tables.TableLaws.{zero-word}
+use Rattle.truth.proofs.walk.WalkedTables.{Listing, start-range, listing-first, listing-below, listing-inside, listing-range, listing-closed, listing-room, listing-more}
 use Rattle.truth.proofs.walk.walk.Statement.{statement}
 use Rattle.truth.proofs.walk.walk.Tie as tie
 
@@ -17,88 +17,92 @@ abbrev μ-loop : tie.MeasureT-loop
 
 -- a pair that is not listed has room
 room : (c : tie.Else1 Inv-loop μ-loop) → (c .before .before .loop .len < c .before .before .before .args .n * c .before .before .before .args .t) × (c .before .before .loop .len < 2048)
-room c = listing-room _ _ _ _ _ _ _ _ (c .before .before .before .pre) _ _ _ _ _ _ (c .before .before .loop .inv) _ _ (c .before .advance .ensures) (c .if1 .left)
+room c = listing-room (c .before .before .before .pre) (c .before .before .loop .inv) (c .before .advance .ensures) (c .if1 .left)
+
+-- the pair after the last
+range : (c : tie.After-advance Inv-loop μ-loop) → (c .advance .result .position < 16) × (1 ≤ c .advance .result .node) × (c .advance .result .node ≤ 128)
+range c = listing-range (c .before .before .pre) (c .before .loop .inv) (c .advance .ensures)
 
 cast-nodes : tie.Need-cast-nodes Inv-loop μ-loop
-cast-nodes c = let r = start-range _ _ _ _ _ _ _ _ (c .pre) in omega arith
+cast-nodes c = omega (arith, start-range (c .pre))
 
 array-write-nodes : tie.Need-array-write-nodes Inv-loop μ-loop
-array-write-nodes c = search needs
+array-write-nodes c = omega arith
 
 sub-places : tie.Need-sub-places Inv-loop μ-loop
-sub-places c = let r = start-range _ _ _ _ _ _ _ _ (c .pre) in omega arith
+sub-places c = omega (arith, start-range (c .pre))
 
 mul-places : tie.Need-mul-places Inv-loop μ-loop
-mul-places c = search needs
+mul-places c = omega (arith, start-range (c .pre))
 
 array-write-places : tie.Need-array-write-places Inv-loop μ-loop
-array-write-places c = let r = start-range _ _ _ _ _ _ _ _ (c .pre) in omega arith
+array-write-places c = omega (arith, start-range (c .pre))
 
 loop-holds : tie.Need-loop-holds Inv-loop μ-loop
-loop-holds c = listing-first _ _ _ _ _ _ _ _ (c .pre) (replicate 2048 0) (length-replicate {A = ℕ} 2048 0) (zeros 2048)
+loop-holds c = listing-first (c .pre) (replicate 2048 0) (length-replicate {A = ℕ} 2048 0) (zero-word 2048)
 
 advance-requires : tie.Need-advance-requires Inv-loop μ-loop
 advance-requires c κs =
     let w = c .before .pre in
     let l = c .loop .inv in
-    ((c .before .args .n, c .before .args .s, w), listing-below _ _ _ _ _ _ _ _ w _ _ _ _ _ _ l, listing-inside _ _ _ _ _ _ _ _ w _ _ _ _ _ _ l)
+    ((c .before .args .n, c .before .args .s, w), listing-below w l, listing-inside w l)
 
 cast-at : tie.Need-cast-at Inv-loop μ-loop
-cast-at c = search needs
+cast-at c = omega (arith, range c)
 
 mul-at : tie.Need-mul-at Inv-loop μ-loop
-mul-at c = search needs
+mul-at c = omega (arith, range c)
 
 cast-at-2 : tie.Need-cast-at-2 Inv-loop μ-loop
-cast-at-2 c = search needs
+cast-at-2 c = omega (arith, range c)
 
 sub-at : tie.Need-sub-at Inv-loop μ-loop
-sub-at c = let r = listing-range _ _ _ _ _ _ _ _ (c .before .before .pre) _ _ _ _ _ _ (c .before .loop .inv) _ _ (c .advance .ensures) in omega arith
+sub-at c = omega (arith, range c)
 
 add-at : tie.Need-add-at Inv-loop μ-loop
-add-at c = search needs
+add-at c = omega (arith, range c)
 
 mul-back : tie.Need-mul-back Inv-loop μ-loop
-mul-back c = search needs
+mul-back c = omega (arith, range c)
 
 array-read-back : tie.Need-array-read-back Inv-loop μ-loop
-array-read-back c = let r = listing-range _ _ _ _ _ _ _ _ (c .before .before .pre) _ _ _ _ _ _ (c .before .loop .inv) _ _ (c .advance .ensures) in omega arith
+array-read-back c = omega (arith, range c)
 
 returns : tie.Need-returns Inv-loop μ-loop
-returns c = listing-closed _ _ _ _ _ _ _ _ (c .before .before .before .pre) _ _ _ _ _ _ (c .before .before .loop .inv) _ _ (c .before .advance .ensures) (c .if1 .taken)
+returns c = listing-closed (c .before .before .before .pre) (c .before .before .loop .inv) (c .before .advance .ensures) (c .if1 .taken)
 
 cast-nodes-2 : tie.Need-cast-nodes-2 Inv-loop μ-loop
-cast-nodes-2 c = let r = listing-range _ _ _ _ _ _ _ _ (c .before .before .before .pre) _ _ _ _ _ _ (c .before .before .loop .inv) _ _ (c .before .advance .ensures) in omega arith
+cast-nodes-2 c = omega (arith, range (c .before))
 
 cast-nodes-3 : tie.Need-cast-nodes-3 Inv-loop μ-loop
-cast-nodes-3 c = let r = room c in omega arith
+cast-nodes-3 c = omega (arith, room c)
 
 array-write-nodes-2 : tie.Need-array-write-nodes-2 Inv-loop μ-loop
-array-write-nodes-2 c = let r = room c in omega arith
+array-write-nodes-2 c = omega (arith, room c)
 
 cast-positions : tie.Need-cast-positions Inv-loop μ-loop
-cast-positions c = let r = room c in omega arith
+cast-positions c = omega (arith, room c)
 
 mul-positions : tie.Need-mul-positions Inv-loop μ-loop
-mul-positions c = let r = room c in omega arith
+mul-positions c = omega (arith, room c)
 
 array-write-positions : tie.Need-array-write-positions Inv-loop μ-loop
-array-write-positions c = let r = room c in omega arith
+array-write-positions c = omega (arith, room c)
 
 add-len : tie.Need-add-len Inv-loop μ-loop
-add-len c = let r = room c in omega arith
+add-len c = omega (arith, room c)
 
 mul-places-2 : tie.Need-mul-places-2 Inv-loop μ-loop
-mul-places-2 c = search needs
+mul-places-2 c = omega (arith, range (c .before))
 
 array-write-places-2 : tie.Need-array-write-places-2 Inv-loop μ-loop
-array-write-places-2 c = let r = listing-range _ _ _ _ _ _ _ _ (c .before .before .before .pre) _ _ _ _ _ _ (c .before .before .loop .inv) _ _ (c .before .advance .ensures) in omega arith
+array-write-places-2 c = omega (arith, range (c .before))
 
 loop-less : tie.Need-loop-less Inv-loop μ-loop
-loop-less c = let r = room c in omega arith
+loop-less c = omega (arith, room c)
 
 loop-again : tie.Need-loop-again Inv-loop μ-loop
-loop-again c = listing-more _ _ _ _ _ _ _ _ (c .before .before .before .pre) _ _ _ _ _ _ (c .before .before .loop .inv) _ _ (c .before .advance .ensures) (c .if1 .left)
+loop-again c = listing-more (c .before .before .before .pre) (c .before .before .loop .inv) (c .before .advance .ensures) (c .if1 .left)
 
 pub walk-spec : {M : Type 1} → statement M
 walk-spec =

@@ -1,5 +1,5 @@
 use borrow.Author.Needs.{needs}
-use Rattle.truth.proofs.RowLaws.{held-not}
+use Rattle.truth.proofs.rows.RowLaws.{held-not}
 use Rattle.truth.proofs.rows.Row.complement.Statement.{statement}
 use Rattle.truth.proofs.rows.Row.complement.Tie as tie
 

@@ -1,6 +1,6 @@
 use lib.Count.{ones-le}
 use native.Mathlib.Omega.{arith}
-use Rattle.truth.proofs.RowLaws.{held-count}
+use Rattle.truth.proofs.rows.RowLaws.{held-count}
 use Rattle.truth.proofs.rows.Row.count.Statement.{statement}
 use Rattle.truth.proofs.rows.Row.count.Tie as tie
 

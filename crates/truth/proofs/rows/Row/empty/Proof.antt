@@ -1,4 +1,4 @@
-use Rattle.truth.proofs.RowLaws.{held-none}
+use Rattle.truth.proofs.rows.RowLaws.{held-none}
 use Rattle.truth.proofs.rows.Row.empty.Statement.{statement}
 use Rattle.truth.proofs.rows.Row.empty.Tie as tie
 

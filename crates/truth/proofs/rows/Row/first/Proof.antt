@@ -1,24 +1,24 @@
 -- `first` meets its contract: the lowest set bit of the lower word that has one.
 use native.Mathlib.Omega.{arith}
-use Rattle.truth.proofs.RowSets.{found-low, found-high, found-none}
+use Rattle.truth.proofs.rows.RowSets.{found-low, found-high, found-none}
 use borrow.Author.Needs.{needs}
 use Rattle.truth.proofs.rows.Row.first.Statement.{statement}
 use Rattle.truth.proofs.rows.Row.first.Tie as tie
 
 cast-result : tie.Need-cast-result
-cast-result c = search needs
+cast-result c = omega arith
 
 add-result : tie.Need-add-result
-add-result c = search needs
+add-result c = omega arith
 
 returns : tie.Need-returns
 returns c = found-low _ _ (omega arith) (search needs)
 
 cast-result-2 : tie.Need-cast-result-2
-cast-result-2 c = search needs
+cast-result-2 c = omega arith
 
 add-result-2 : tie.Need-add-result-2
-add-result-2 c = search needs
+add-result-2 c = omega arith
 
 returns-2 : tie.Need-returns-2
 returns-2 c = found-high _ _ (omega arith) (search needs)

@@ -1,4 +1,4 @@
-use Rattle.truth.proofs.RowLaws.{held-and}
+use Rattle.truth.proofs.rows.RowLaws.{held-and}
 use Rattle.truth.proofs.rows.Row.intersection.Statement.{statement}
 use Rattle.truth.proofs.rows.Row.intersection.Tie as tie
 

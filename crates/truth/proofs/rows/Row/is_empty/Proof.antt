@@ -1,6 +1,6 @@
-use mathlib.Core.Path.{sym, _∙_}
+use mathlib.Core.Path.{sym}
 use native.Mathlib.Omega.{arith}
-use Rattle.truth.proofs.RowLaws.{empty-low, empty-high}
+use Rattle.truth.proofs.rows.RowLaws.{empty-low, empty-high}
 use Rattle.truth.proofs.rows.Row.is_empty.Statement.{statement}
 use Rattle.truth.proofs.rows.Row.is_empty.Tie as tie
 

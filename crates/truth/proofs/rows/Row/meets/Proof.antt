@@ -1,18 +1,16 @@
 -- `meets` meets its contract: two rows meet where their intersection is not empty.
-use mathlib.Core.Path.{_≡_, ap, _∙_, fun-ext}
-use Prim.Native.Nat.{ℕ}
-use mathlib.Core.Bool.{not, _&&_}
+use mathlib.Core.Path.{ap, _∙_, fun-ext}
+use mathlib.Core.Bool.{not}
 use Rattle.sheets.specs.Words.{each}
-use Rattle.truth.specs.Rows.{rowHas}
-use borrow.Author.Needs.{needs}
+use native.Mathlib.Omega.{arith}
 use Rattle.truth.proofs.rows.Row.meets.Statement.{statement}
 use Rattle.truth.proofs.rows.Row.meets.Tie as tie
 
 intersection-requires : tie.Need-intersection-requires
-intersection-requires c κs = search needs
+intersection-requires c κs = omega arith
 
 is-empty-requires : tie.Need-is-empty-requires
-is-empty-requires c κs = search needs
+is-empty-requires c κs = omega arith
 
 returns : tie.Need-returns
 returns c =

@@ -1,4 +1,4 @@
-use Rattle.truth.proofs.RowLaws.{held-or}
+use Rattle.truth.proofs.rows.RowLaws.{held-or}
 use Rattle.truth.proofs.rows.Row.union.Statement.{statement}
 use Rattle.truth.proofs.rows.Row.union.Tie as tie
 

@@ -1,18 +1,18 @@
 -- `without` meets its contract: the row of the one node is taken out.
 use mathlib.Core.Path.{_∙_}
-use Rattle.truth.proofs.RowSets.{but-one}
-use borrow.Author.Needs.{needs}
+use Rattle.truth.proofs.rows.RowSets.{but-one}
+use native.Mathlib.Omega.{arith}
 use Rattle.truth.proofs.rows.Row.without.Statement.{statement}
 use Rattle.truth.proofs.rows.Row.without.Tie as tie
 
 empty-requires : tie.Need-empty-requires
-empty-requires c κs = search needs
+empty-requires c κs = omega arith
 
 with-requires : tie.Need-with-requires
-with-requires c κs = search needs
+with-requires c κs = omega arith
 
 difference-requires : tie.Need-difference-requires
-difference-requires c κs = search needs
+difference-requires c κs = omega arith
 
 returns : tie.Need-returns
 returns c i =

@@ -1,0 +1,2 @@
+-- Laws of the first start node outside a row.
+pub mod BreakNodes

@@ -1,0 +1,6 @@
+-- Laws of labelling: its questions, the truths of all lines, start nodes, counts, the answer.
+pub mod LabelTable
+pub mod LineTruths
+pub mod StartRows
+pub mod LabelCounts
+pub mod LabelAnswers

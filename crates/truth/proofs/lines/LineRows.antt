@@ -1,0 +1,110 @@
+-- The row of a line by the operation of the line, from what the code reads of the rows above it.
+use mathlib.Core.Path.{_≡_, _∙_}
+use mathlib.Core.Logic.{_↔_}
+use Prim.Native.Nat.{ℕ, _-_, _*_, _≤_, _<_}
+use native.Mathlib.Omega.{arith}
+use mathlib.Core.List.{List}
+use mathlib.Core.Bool.{Bool, true, false, not, _&&_, _||_, and-assoc}
+use lib.ListN.{length}
+use lib.Dec.{T, not-T, leb, leb→le, le→leb}
+use Rattle.sheets.specs.Words.{within}
+use Rattle.sheets.specs.Machine.{nodes, kripke, signalAt}
+use Rattle.sheets.specs.Rules.{automata, automaton}
+use Rattle.sheets.specs.Lines.{decoded}
+use Rattle.sheets.specs.declared.lines.Line.{Line}
+use Rattle.sheets.specs.declared.lines.Line.the-variants.{Signal, Negation, Either, SomePath, SomePathNot}
+use Rattle.sheets.specs.declared.lines.Decoded.the-variants.{Formed, Malformed}
+use Rattle.sheets.proofs.Tests.{passed, failed, not-is, or-is}
+use Rattle.sheets.proofs.Search.{within-in}
+use Rattle.sheets.proofs.AcceptedMachine.{nodes-sized}
+use Rattle.sheets.proofs.FormedLines as FormedLines
+use Rattle.truth.specs.Rows.{rowsHas}
+use Rattle.truth.specs.Truth.{Means}
+use Rattle.truth.specs.Labelling.{rowTruths}
+use Rattle.truth.specs.Product.{argument, good}
+use Rattle.truth.specs.OneLine.{LineReady, LineRow, PathReady, PathRow}
+use Rattle.truth.proofs.tables.RowBits.{row-bit}
+use Rattle.truth.proofs.lines.DecodedKinds.{meant, line-meant, none-malformed, refers}
+
+-- of the nodes 1 to n, those that pass a test
+pub nodes-passing : {n m : ℕ} → n ≡ m → {all : ℕ → Bool} → ((s : ℕ) → all s ≡ (leb s n && within 1 128 s)) → {row : ℕ → Bool} (f g : ℕ → Bool)
+    → ((s : ℕ) → row s ≡ (all s && f s)) → ((s : ℕ) → f s ≡ g s) → (s : ℕ) → row s ≡ (leb s m && (within 1 128 s && g s))
+nodes-passing {n} {m} e {all} allIs {row} f g is same s = rw (is s, allIs s, e, same s) (and-assoc (leb s m) (within 1 128 s) (g s))
+
+-- a path line, with accepting and non-accepting states exchanged or not
+abbrev pathLine : Bool → ℕ → Line
+pathLine false x = SomePath x
+pathLine true x = SomePathNot x
+
+module _ {M R next back rows : List ℕ} {j : ℕ} (pre : LineReady M R next back rows j) where
+  refer : (l : Line) → decoded R j ≡ Formed l → FormedLines.Formed 16 (automata R) (automaton R) j (meant R j l)
+  refer = refers R j (pre .ready .rules) (pre .from) (pre .to)
+
+  -- ---- what the lines referred to ask for
+
+  above : {k : ℕ} → (1 ≤ k) × (k < j) → (1 ≤ k) × (2 * k ≤ length rows)
+  above r = (r .0, omega (arith, r .0, r .1, pre .above))
+
+  pub negation-above : {k : ℕ} → decoded R j ≡ Formed (Negation k) → (1 ≤ k) × (2 * k ≤ length rows)
+  unfolding FormedLines.Formed
+  negation-above {k} e = above (refer (Negation k) e)
+
+  pub either-above : {i k : ℕ} → decoded R j ≡ Formed (Either i k) → ((1 ≤ i) × (2 * i ≤ length rows)) × ((1 ≤ k) × (2 * k ≤ length rows))
+  unfolding FormedLines.Formed
+  either-above {i} {k} e = let r = refer (Either i k) e in (above (r .0), above (r .1))
+
+  path-asks : {x : ℕ} → ((1 ≤ x) × (x ≤ automata R)) × ((i : ℕ) → i < automaton R x .variables → (1 ≤ argument R j i) × (argument R j i < j))
+      → PathReady M R next back rows j x
+  unfolding automaton
+  path-asks r = record { ready = pre .ready; from = r .0 .0; to = r .0 .1; arguments = λ i l. above (r .1 i l) }
+
+  pub path-ready : (exchanged : Bool) {x : ℕ} → decoded R j ≡ Formed (pathLine exchanged x) → PathReady M R next back rows j x
+  unfolding FormedLines.Formed
+  path-ready false {x} e = path-asks (refer (SomePath x) e)
+  path-ready true {x} e = path-asks (refer (SomePathNot x) e)
+
+  -- ---- the rows
+
+  pub malformed-row : {row : ℕ → Bool} → decoded R j ≡ Malformed → LineRow M R rows j row
+  malformed-row e = absurd (none-malformed R j (pre .ready .rules) (pre .from) (pre .to) e)
+
+  module _ {row : ℕ → Bool} where
+    -- a row of those of the nodes that pass a test, where the test is the line's meaning
+    among-nodes : (l : Line) → decoded R j ≡ Formed l → (f : ℕ → Bool) → ((s : ℕ) → row s ≡ (leb s (nodes M) && (within 1 128 s && f s)))
+        → ((s : ℕ) → 1 ≤ s → s ≤ 128 → T (f s) ↔ Means (kripke M) (automaton R) (rowTruths rows) (meant R j l) s) → LineRow M R rows j row
+    among-nodes l e f is means = record {
+      truth = λ s lo hi.
+          let small : s ≤ 128 = omega (arith, nodes-sized M (pre .ready .machine) .1) in
+          let a = passed (leb s (nodes M)) (le→leb s (nodes M) hi) in
+          let b = passed (within 1 128 s) (within-in 1 128 s lo small) in
+          rw (line-meant R j l e, is s, a, b) (means s lo small);
+      clear = λ s over.
+          let a = failed (leb s (nodes M)) (not-T (leb s (nodes M)) (λ t. let h = leb→le s (nodes M) t in absurd (omega arith))) in
+          is s ∙ rw a;
+    }
+
+    pub signal-row : {i : ℕ} → decoded R j ≡ Formed (Signal i)
+        → ((s : ℕ) → row s ≡ (leb s (nodes M) && (within 1 128 s && signalAt M i s))) → LineRow M R rows j row
+    unfolding Means kripke
+    signal-row {i} e is = among-nodes (Signal i) e (signalAt M i) is (λ s lo hi. (λ t. t, λ t. t))
+
+    pub negation-row : {k : ℕ} → decoded R j ≡ Formed (Negation k)
+        → ((s : ℕ) → row s ≡ (leb s (nodes M) && (within 1 128 s && not (rowsHas rows (k - 1) s)))) → LineRow M R rows j row
+    unfolding Means
+    negation-row {k} e is =
+        among-nodes (Negation k) e (λ s. not (rowsHas rows (k - 1) s)) is
+        (λ s lo hi. rw (row-bit rows k s lo hi) (let b = not-is (rowsHas rows (k - 1) s) in (b .1, b .0)))
+
+    pub either-row : {i k : ℕ} → decoded R j ≡ Formed (Either i k)
+        → ((s : ℕ) → row s ≡ (leb s (nodes M) && (within 1 128 s && (rowsHas rows (i - 1) s || rowsHas rows (k - 1) s)))) → LineRow M R rows j row
+    unfolding Means
+    either-row {i} {k} e is =
+        among-nodes (Either i k) e (λ s. rowsHas rows (i - 1) s || rowsHas rows (k - 1) s) is
+        (λ s lo hi.
+        rw (row-bit rows i s lo hi, row-bit rows k s lo hi)
+        (let b = or-is (rowsHas rows (i - 1) s) (rowsHas rows (k - 1) s) in (b .1, b .0)))
+
+    pub path-row : (exchanged : Bool) {x : ℕ} → decoded R j ≡ Formed (pathLine exchanged x) → PathRow M R rows j x exchanged row → LineRow M R rows j row
+    unfolding Means automaton good
+    path-row false {x} e p = record { truth = λ s lo hi. rw (line-meant R j (SomePath x) e) (p .truth s lo hi); clear = p .clear }
+    path-row true {x} e p = record { truth = λ s lo hi. rw (line-meant R j (SomePathNot x) e) (p .truth s lo hi); clear = p .clear }

@@ -1,0 +1,150 @@
+-- What a path call makes: refused by the first "no" of its table; or no path, where the asked line's row has not the node; or the list
+-- that shows the path, where it has.
+use mathlib.Core.Path.{_≡_, sym, subst, _∙_}
+use mathlib.Core.Logic.{_↔_}
+use Prim.Native.Nat.{ℕ, _+_, _-_, _*_, _≤_}
+use native.Mathlib.Omega.{arith}
+use mathlib.Core.List.{List}
+use mathlib.Core.Bool.{Bool, true, false, not, _&&_}
+use borrow.Author.Tests.{not-true, not-false}
+use lib.ListN.{length, getD}
+use lib.Dec.{T, leb, leb→le, eqb}
+use Rattle.sheets.specs.Words.{within, indicator}
+use Rattle.sheets.specs.Questions.{none as noRefusal, firstNo}
+use Rattle.sheets.specs.Machine.{nodes, machineRefusal}
+use Rattle.sheets.specs.Rules.{lent, fits, lines, lineWord, statesOf, q7, ruleRefusal}
+use Rattle.sheets.proofs.Tests.{and-left, and-right}
+use Rattle.sheets.proofs.Search.{within-at}
+use Rattle.sheets.proofs.Questions.{AllYes, rule-answers}
+use Rattle.sheets.proofs.AcceptedMachine.{nodes-sized}
+use Rattle.truth.specs.Truth.{TrueAt}
+use Rattle.truth.specs.Rows.{held}
+use Rattle.truth.specs.Labelling.{sheetOf, Rows}
+use Rattle.truth.specs.OneLine.{Ready, PathReady, Holds}
+use Rattle.truth.specs.Walked.{placed}
+use Rattle.truth.specs.Path.{asked, q18, q19, pathQuestions}
+use Rattle.truth.specs.PathAnswers.{refusalOf, MadePath, MadeFor}
+use Rattle.truth.specs.Shows.{ShowsLine}
+use Rattle.truth.specs.declared.path.Shown.{Shown}
+use Rattle.truth.specs.declared.path.Shown.the-variants.{Refused, NoPath}
+use Rattle.truth.proofs.tables.RowBits.{row-bit}
+use Rattle.truth.proofs.labelling.LabelTable.{Sheeted, refusal-whole, none-whole, machine-whole, rules-whole, last-whole}
+use Rattle.truth.proofs.path.PathTable.{ownQuestions}
+use Rattle.truth.proofs.path.PathLines.{operation, operated, path-refers, holds-true, list-true}
+
+-- the rows of an accepted sheet fit 2048 words
+pub rows-fit : (R : List ℕ) → ruleRefusal lent R ≡ 0 → 2 * lines R ≤ 2048
+unfolding q7 lent fits
+rows-fit R rules =
+    let t : T (leb (lines R) 1024) = search (and-right, rule-answers lent R rules .seven) in
+    omega (arith, leb→le (lines R) 1024 t)
+
+-- q is the number of the first "no"
+module _ (M R : List ℕ) (j s room q : ℕ) (e : q ≡ firstNo (pathQuestions M R j s room) .number) where
+  own-sheeted : Sheeted (ownQuestions M R j s room)
+  unfolding sheetOf indicator
+  own-sheeted = omega arith
+
+  pub refused : (i : ℕ) (list names : List ℕ) → (q ≡ 0 → ⊥) → i ≡ sheetOf q → MadeFor M R j s room list names (Refused q i)
+  unfolding refusalOf MadePath pathQuestions
+  refused i list names n f =
+      record { refusal = rw f (refusal-whole M R (ownQuestions M R j s room) own-sheeted q e n); made = omega arith }
+
+  module _ (z : q ≡ 0) where
+    none-asked : noRefusal ≡ firstNo (pathQuestions M R j s room)
+    unfolding pathQuestions
+    none-asked = none-whole M R (ownQuestions M R j s room) own-sheeted (sym z ∙ e)
+
+    pub machine-accepted : machineRefusal M ≡ 0
+    unfolding pathQuestions
+    machine-accepted = machine-whole M R (ownQuestions M R j s room) (sym z ∙ e)
+
+    pub rules-accepted : ruleRefusal lent R ≡ 0
+    unfolding pathQuestions
+    rules-accepted = rules-whole M R (ownQuestions M R j s room) (sym z ∙ e)
+
+    own-accepted : AllYes (ownQuestions M R j s room)
+    unfolding pathQuestions
+    own-accepted = last-whole M R (ownQuestions M R j s room) (sym z ∙ e)
+
+    -- line k is the asked one
+    module _ (k : ℕ) (ek : k ≡ asked R j) where
+      line-accepted : T (within 1 (lines R) k && within 1 (nodes M) s && within 3 4 (lineWord lent R k 0))
+      unfolding q18
+      line-accepted = rw ek (own-accepted .0)
+
+      pub line-in : (1 ≤ k) × (k ≤ lines R)
+      line-in = within-at 1 (lines R) k (let t = line-accepted in search (and-left, t))
+
+      node-in : (1 ≤ s) × (s ≤ nodes M)
+      node-in = within-at 1 (nodes M) s (let t = line-accepted in search (and-left, and-right, t))
+
+      path-line : T (within 3 4 (lineWord lent R k 0))
+      path-line = let t = line-accepted in search (and-right, t)
+
+      room-enough : nodes M * length (statesOf R (lineWord lent R k 1)) ≤ room
+      unfolding q19
+      room-enough = rw ek (leb→le _ room (own-accepted .1 .0))
+
+      -- the rows are those of the lines, and the row of line k is that of two words
+      module _ (before rows : List ℕ) (written : Rows M R before rows) (low high : ℕ) (lo : low ≡ getD rows (2 * (k - 1)) 0)
+          (hi : high ≡ getD rows (2 * (k - 1) + 1) 0) (b : Bool) (eb : b ≡ held low high s) where
+        row-true : T b ↔ TrueAt lent M R k s
+        row-true =
+            let small = nodes-sized M machine-accepted .1 in
+            rw (eb, lo, hi, ← row-bit rows k s (node-in .0) (omega (arith, node-in .1)))
+            (written .truth k s (line-in .0) (line-in .1) (node-in .0) (node-in .1))
+
+        pub no-path : (list names : List ℕ) → not b ≡ true → MadeFor M R j s room list names NoPath
+        unfolding refusalOf MadePath
+        no-path list names n = record { refusal = none-asked; made = λ t. subst T (not-true b n) (row-true .1 (rw ek t)) }
+
+        -- it has the node
+        module _ (found : not b ≡ false) (x op : ℕ) (ex : x ≡ lineWord lent R k 1) (eo : op ≡ lineWord lent R k 0) (exchanged : Bool)
+            (ee : eqb op 4 ≡ exchanged) where
+          kind : lineWord lent R k 0 ≡ operation exchanged
+          kind = rw (← ee, eo) (operated (lineWord lent R k 0) path-line)
+
+          line-true : TrueAt lent M R k s
+          line-true = row-true .0 (subst T (sym (not-false b found)) tt)
+
+          pub show-ready : length rows ≡ 2048
+              → (machineRefusal M ≡ 0) × ((ruleRefusal lent R ≡ 0) × ((next back : List ℕ) → Ready M R next back → PathReady M R next back rows k x × ((1 ≤ s) × ((s ≤ nodes M) × Holds M R rows k x exchanged s))))
+          show-ready size =
+              let r = path-refers M R machine-accepted rules-accepted k (line-in .0) (line-in .1) exchanged kind in
+              let fit = rows-fit R rules-accepted in
+              let in-lines = line-in .1 in (
+                machine-accepted,
+                (
+                  rules-accepted,
+                  λ next back ready. (
+                    record {
+                      ready = ready;
+                      from = rw ex (r .0 .0);
+                      to = rw ex (r .0 .1);
+                      arguments = λ i l. let a = r .1 i (rw ex at l) in (a .0, omega (arith, a .1));
+                    },
+                    (
+                      node-in .0,
+                      (
+                        node-in .1,
+                        rw ex (holds-true M R machine-accepted rules-accepted k (line-in .0) (line-in .1) exchanged kind before rows written s (node-in .0) (node-in .1) .1 line-true),
+                      ),
+                    ),
+                  ),
+                ),
+              )
+
+          pub shown : (list names : List ℕ) (answer : Shown) → ShowsLine M R rows k x exchanged s list names answer → MadeFor M R j s room list names answer
+          unfolding refusalOf MadePath
+          shown list names answer sl =
+              rw (sl .answered) (record {
+                refusal = none-asked;
+                made = (
+                  rw (← ek) line-true,
+                  rw (← ek)
+                      (list-true M R machine-accepted rules-accepted k (line-in .0) (line-in .1) exchanged kind before rows written s (node-in .0) (node-in .1)
+                      (placed list) (placed names) (sl .len) (sl .back) (rw ex at (sl .lasso))),
+                  omega (arith, rw ex at (sl .fits), room-enough),
+                );
+              })

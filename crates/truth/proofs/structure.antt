@@ -1,0 +1,4 @@
+-- Laws of the machine's structure in rows: loops over nodes and chains, and edges backwards.
+pub mod NodeLoops
+pub mod ChainRows
+pub mod EdgesBack

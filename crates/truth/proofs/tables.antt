@@ -1,0 +1,3 @@
+-- Laws of tables of rows.
+pub mod TableLaws
+pub mod RowBits

@@ -1,0 +1,97 @@
+-- Tables: rows that were loaded and stored, a table filled row after row, and a number stored by pair, 128 a position.
+use mathlib.Core.Path.{_≡_, refl, _∙_}
+use mathlib.Core.Logic.{by-cases}
+use Prim.Native.Nat.{ℕ, zero, suc, _+_, _-_, _*_, _≤_, _<_}
+use native.Mathlib.Omega.{arith}
+use native.Mathlib.Decide.{ℕ-discrete}
+use mathlib.Core.List.{List}
+use mathlib.Core.Bool.{Bool, false, _&&_, _||_, and-true, and-false, or-false}
+use borrow.Author.Count.{below-more}
+use lib.ListN.{length, getD, set, length-set, replicate}
+use lib.Seq.{getD-set-same, getD-set-other}
+use lib.Dec.{eqb}
+use Rattle.sheets.proofs.Tests.{eqb-same, eqb-other}
+use Rattle.truth.specs.Rows.{held, rowHas, rowsHas}
+use Rattle.truth.specs.Pairs.{Cleared, timeOf}
+use Rattle.truth.specs.declared.rows.Row.{Row}
+use Rattle.truth.proofs.rows.RowLaws.{held-none}
+
+pub loaded : (B : List ℕ) (r : Row) (p q s : ℕ) → (r .low ≡ getD B (2 * p) 0) × (r .high ≡ getD B (2 * p + 1) 0) → q ≡ p → rowHas r s ≡ rowsHas B q s
+loaded B r p q s l e = rw (l .0, l .1, e)
+
+-- ---- a new table
+
+pub zero-word : (n i : ℕ) → _≡_ {A = ℕ} (getD (replicate n 0) i 0) 0
+zero-word zero i = refl
+zero-word (suc n) zero = refl
+zero-word (suc n) (suc i) = zero-word n i
+
+pub zero-row : (n p s : ℕ) → rowsHas (replicate n 0) p s ≡ false
+zero-row n p s = rw (zero-word n (2 * p), zero-word n (2 * p + 1)) (held-none s)
+
+-- ---- a row stored
+module _ (B : List ℕ) (p a b : ℕ) (h : 2 * p + 1 < length B) where
+  abbrev pub stored : List ℕ
+  stored = set (set B (2 * p) a) (2 * p + 1) b
+
+  stored-low : getD stored (2 * p) 0 ≡ a
+  stored-low = getD-set-other (set B (2 * p) a) (2 * p + 1) (2 * p) b 0 (λ e. omega arith) ∙ getD-set-same B (2 * p) a 0 (omega arith)
+
+  stored-high : getD stored (2 * p + 1) 0 ≡ b
+  stored-high = getD-set-same (set B (2 * p) a) (2 * p + 1) b 0 (rw (length-set B (2 * p) a) h)
+
+  pub stored-word : (k : ℕ) → (k ≡ 2 * p → ⊥) → (k ≡ 2 * p + 1 → ⊥) → getD stored k 0 ≡ getD B k 0
+  stored-word k n m = getD-set-other (set B (2 * p) a) (2 * p + 1) k b 0 m ∙ getD-set-other B (2 * p) k a 0 n
+
+  pub stored-length : length stored ≡ length B
+  stored-length = simp length-set
+
+  pub stored-here : (s : ℕ) → rowsHas stored p s ≡ held a b s
+  stored-here s = rw (stored-low, stored-high)
+
+  pub stored-other : (q s : ℕ) → (q ≡ p → ⊥) → rowsHas stored q s ≡ rowsHas B q s
+  stored-other q s n = rw (stored-word (2 * q) (λ e. n (omega arith)) (λ e. omega arith), stored-word (2 * q + 1) (λ e. omega arith) (λ e. n (omega arith)))
+
+  -- with more nodes
+  pub stored-more : (x : ℕ → Bool) → ((s : ℕ) → held a b s ≡ (rowsHas B p s || x s)) → (q s : ℕ) → rowsHas stored q s ≡ (rowsHas B q s || (eqb q p && x s))
+  stored-more x more q s =
+      by-cases (ℕ-discrete q p) (λ e. rw (e, eqb-same p) (stored-here s ∙ more s))
+      (λ n. rw (eqb-other q p n, or-false (rowsHas B q s)) (stored-other q s n))
+
+-- and with none
+pub emptied : (B C : List ℕ) (p a b : ℕ) → 2 * p + 1 < length B → C ≡ set (set B (2 * p) a) (2 * p + 1) b → ((s : ℕ) → held a b s ≡ false) → Cleared p B C
+emptied B C p a b h e none =
+    rw e (record {
+      size = stored-length B p a b h;
+      rows = λ q s. by-cases (ℕ-discrete q p) (λ e. rw (e, eqb-same p, and-false (rowsHas B p s)) (stored-here B p a b h s ∙ none s))
+          (λ n. rw (eqb-other q p n, and-true (rowsHas B q s)) (stored-other B p a b h q s n));
+    })
+
+-- ---- a table filled row after row: P says what the node s is in row i
+pub record Filled (P : ℕ → ℕ → Bool → Type 0) (k : ℕ) (B : List ℕ) : Type 0 where
+  pub size : length B ≡ 512
+  pub rows : (i s : ℕ) → i < k → P i s (rowsHas B i s)
+
+module _ (P : ℕ → ℕ → Bool → Type 0) (B : List ℕ) where
+  pub filled-none : length B ≡ 512 → Filled P 0 B
+  filled-none e = record { size = e; rows = λ i s l. absurd (omega arith) }
+
+  pub filled-more : (C : List ℕ) (k a b : ℕ) → Filled P k B → k < 256 → C ≡ set (set B (2 * k) a) (2 * k + 1) b → ((s : ℕ) → P k s (held a b s))
+      → Filled P (k + 1) C
+  filled-more C k a b f z e here =
+      rw e (record {
+        size = stored-length B k a b fits ∙ f .size;
+        rows = λ i s l. below-more (λ i. (s : ℕ) → P i s (rowsHas (stored B k a b fits) i s)) k
+            (λ i l s. rw (stored-other B k a b fits i s (λ q. omega arith)) (f .rows i s l)) (λ s. rw (stored-here B k a b fits s) (here s)) i l s;
+      })
+    where
+      fits : 2 * k + 1 < length B
+      fits = omega (arith, f .size)
+
+-- ---- a number stored by pair
+module _ (xs : List ℕ) (q v x : ℕ) where
+  pub time-here : 128 * q + (v - 1) < length xs → timeOf (set xs (128 * q + (v - 1)) x) q v ≡ x
+  time-here l = getD-set-same xs (128 * q + (v - 1)) x 0 l
+
+  pub time-other : 1 ≤ v → v ≤ 128 → (p u : ℕ) → 1 ≤ u → u ≤ 128 → (p ≡ q → u ≡ v → ⊥) → timeOf (set xs (128 * q + (v - 1)) x) p u ≡ timeOf xs p u
+  time-other lo hi p u a b differ = getD-set-other xs (128 * q + (v - 1)) (128 * p + (u - 1)) x 0 (λ e. differ (omega arith) (omega arith))
