@@ -9,6 +9,13 @@ use checker::labelling::Labelling;
 use checker::path::{self, Asked, Pair};
 use checker::refusal::Refusal;
 
+/// A place of a list of pairs, as the header declares it.
+#[repr(C)]
+struct Place {
+    node: u16,
+    state: u16,
+}
+
 extern "C" {
     fn toqshenay_check_machine(words: *const u16, length: usize) -> u16;
     fn toqshenay_check_rules(words: *const u16, length: usize) -> u16;
@@ -35,6 +42,19 @@ extern "C" {
         nodes_length: usize,
         states: *mut u16,
         states_length: usize,
+        sheet: *mut u16,
+        length: *mut u16,
+        back: *mut u16,
+    ) -> u16;
+    fn toqshenay_path_pairs(
+        machine: *const u16,
+        machine_length: usize,
+        rules: *const u16,
+        rules_length: usize,
+        line: u16,
+        node: u16,
+        list: *mut Place,
+        list_length: usize,
         sheet: *mut u16,
         length: *mut u16,
         back: *mut u16,
@@ -91,10 +111,17 @@ pub fn label(machine: &[u16], rules: &[u16], rows: &mut [u64]) -> Labelling {
     }
 }
 
-/// Asks for a path; its pairs go to the list.
+/// Asks for a path; its pairs go to the list. Both calls are made, that over two lists and that over a list of pairs, and they answer
+/// and write the same.
 pub fn path(machine: &[u16], rules: &[u16], asked: Asked, list: &mut [Pair]) -> path::Answer {
-    let word = |number: u64| u16::try_from(number).expect("lines and nodes are words");
-    let (line, node) = (word(asked.line), word(asked.node));
+    let mut apart = list.to_vec();
+    let answer = path_lists(machine, rules, asked, &mut apart);
+    assert_eq!(path_pairs(machine, rules, asked, list), answer);
+    assert!(*list == *apart, "the two calls write the same");
+    answer
+}
+
+fn path_lists(machine: &[u16], rules: &[u16], asked: Asked, list: &mut [Pair]) -> path::Answer {
     let (mut nodes, mut states): (Vec<u16>, Vec<u16>) = list.iter().copied().unzip();
     let (mut sheet, mut length, mut back) = (0, 0, 0);
     // SAFETY: addresses and lengths are those of slices and numbers that live through the call.
@@ -104,8 +131,8 @@ pub fn path(machine: &[u16], rules: &[u16], asked: Asked, list: &mut [Pair]) -> 
             machine.len(),
             rules.as_ptr(),
             rules.len(),
-            line,
-            node,
+            word(asked.line),
+            word(asked.node),
             nodes.as_mut_ptr(),
             nodes.len(),
             states.as_mut_ptr(),
@@ -118,6 +145,42 @@ pub fn path(machine: &[u16], rules: &[u16], asked: Asked, list: &mut [Pair]) -> 
     for (pair, parts) in list.iter_mut().zip(nodes.into_iter().zip(states)) {
         *pair = parts;
     }
+    path_answer(question, sheet, length, back)
+}
+
+fn path_pairs(machine: &[u16], rules: &[u16], asked: Asked, list: &mut [Pair]) -> path::Answer {
+    let mut places: Vec<Place> = list
+        .iter()
+        .map(|&(node, state)| Place { node, state })
+        .collect();
+    let (mut sheet, mut length, mut back) = (0, 0, 0);
+    // SAFETY: addresses and lengths are those of slices and numbers that live through the call.
+    let question = unsafe {
+        toqshenay_path_pairs(
+            machine.as_ptr(),
+            machine.len(),
+            rules.as_ptr(),
+            rules.len(),
+            word(asked.line),
+            word(asked.node),
+            places.as_mut_ptr(),
+            places.len(),
+            &mut sheet,
+            &mut length,
+            &mut back,
+        )
+    };
+    for (pair, place) in list.iter_mut().zip(places) {
+        *pair = (place.node, place.state);
+    }
+    path_answer(question, sheet, length, back)
+}
+
+fn word(number: u64) -> u16 {
+    u16::try_from(number).expect("lines and nodes are words")
+}
+
+fn path_answer(question: u16, sheet: u16, length: u16, back: u16) -> path::Answer {
     match (question, length) {
         (0, 0) => path::Answer::NoPath,
         (0, _) => path::Answer::Shown {
