@@ -1,6 +1,6 @@
 #!/usr/bin/env bash
 # more-edits.sh [NAME...]: tries the must-fail edits that check.sh leaves out for its time, those of crates/NAME/must-fail-more, of the
-# named crates or of all. The prover must refuse each. It works on a copy, and takes about a quarter of an hour.
+# named crates or of all. The prover must refuse each. It works on a copy.
 set -eu
 here=$(cd "$(dirname "$0")" && pwd)
 work=$(mktemp -d)
