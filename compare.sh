@@ -33,7 +33,7 @@ bytes_of "$1" "$work/first"
 bytes_of "$2" "$work/second"
 # The programs cut their input where the first sheet's header says that it ends, if the header is in range. A first file of another
 # length would be cut elsewhere.
-read -r nodes signals edges <<HEADER
+read -r nodes signals edges _ <<HEADER
 $(od -An -v --endian=little -t u2 -N 6 "$work/first") 0 0 0
 HEADER
 given=$((3 + 3 * nodes + 2 * edges)) has=$(($(wc -c < "$work/first") / 2))
@@ -41,6 +41,10 @@ in_range() { [ "$2" -ge 1 ] && [ "$2" -le "$1" ]; }
 if in_range 128 "$nodes" && in_range 16 "$signals" && in_range 2048 "$edges" && [ "$given" -ne "$has" ]; then
   echo "$1: its header gives $given words, and it has $has" >&2
   exit 1
+fi
+# Fewer than three words are no header, and words of the second file must not be taken for it.
+if [ "$has" -lt 3 ]; then
+  : > "$work/second"
 fi
 cat "$work/first" "$work/second" > "$work/sheets"
 "$here/target/bin/compare" < "$work/sheets"
