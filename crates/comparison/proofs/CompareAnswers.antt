@@ -3,11 +3,12 @@ use mathlib.Core.Path.{_≡_, refl}
 use Prim.Native.Nat.{ℕ, _+_, _-_, _*_, _≤_, _<_}
 use native.Mathlib.Omega.{arith}
 use mathlib.Core.List.{List, [], _∷_, _++_}
-use lib.ListN.{length, getD, take, drop, length-append}
+use lib.ListN.{length, getD, drop, length-append}
 use Rattle.truth.specs.Passed.{none, firstNo, nodes, signals}
 use Rattle.truth.specs.Rows.{rowsHas}
 use Rattle.truth.proofs.Passed.{nodes-sized}
-use Rattle.comparison.specs.Lines.{Entry, neg, lineWords, sheet}
+use Rattle.comparison.specs.Lines.{Entry, neg, sheet, Downward, Holds, Adds}
+use Rattle.comparison.specs.Needed.{Shortened, Listed}
 use Rattle.comparison.specs.Refinement.{LinesIn}
 use Rattle.comparison.specs.Stages.{Partitioned}
 use Rattle.comparison.specs.Sides.{OneSided}
@@ -17,6 +18,7 @@ use Rattle.comparison.specs.declared.compare.Answer.the-variants.{Refuse
 use Rattle.comparison.proofs.CompareTable.{Compared, compared, none-refused}
 use Rattle.comparison.proofs.Refinement.{blocks-few}
 use Rattle.comparison.proofs.TellingApart.{negated, down-negated}
+use Rattle.comparison.proofs.ShorterRules.{told-shorter}
 use Rattle.comparison.proofs.Outcome.{same-rules, unequal, equal}
 use Rattle.comparison.proofs.WrittenSheet.{written}
 
@@ -64,27 +66,50 @@ module _ (M₁ M₂ before : List ℕ) where
               );
             }
 
-        pub unequal-answer : (c ≡ 0 → ⊥) → (after : List ℕ)
-            → ((ls : List Entry) → length ls ≡ p .lines → take (6 * p .lines) (p .words) ≡ lineWords ls
-            → after ≡ sheet (ls ++ neg (getD (p .line) (c - 1) 0) ∷ []) ++ drop (length (sheet (ls ++ neg (getD (p .line) (c - 1) 0) ∷ []))) before)
-            → CompareAnswer M₁ M₂ before after Unequal
-        unfolding refusalOf Leaves LinesIn
-        unequal-answer n after stands =
-            let k = known in
-            let high = s .high in
-            let h : c - 1 < p .count = omega arith in
-            let j = getD (p .line) (c - 1) 0 in
-            let inside = r .refinement .lines (c - 1) h in
-            let blocks = few-blocks in
-            let short = r .short in
-            let number = r .number in
-            record {
-              refusal = none-refused M₁ M₂ (length before) e;
-              leaves = (
-                sheet (negated (r .ls) j),
-                written M₁ M₂ (k .first) (k .few) (negated (r .ls) j) (down-negated (signals M₁) (r .ls) (r .refinement .down) j (inside .0) (inside .1))
-                    (omega (arith, length-append (r .ls) (neg j ∷ []))) (omega (arith, length-append (r .ls) (neg j ∷ [])))
-                    (unequal (signals M₁) M₁ M₂ (k .first) (k .second) (r .ls) (p .count) (λ c. getD (p .line) c 0) (rowsHas (p .first)) (rowsHas (p .second)) (r .refinement) (c - 1) h (s .found (omega arith)))
-                    before after (stands (r .ls) number (r .stands)),
-              );
-            }
+        -- "not" of the line of the block was written below the lines
+        module _ (n : c ≡ 0 → ⊥) (w : List ℕ) (size : length (p .words) ≡ 5632) (adds : Adds (p .words) w (p .lines) (neg (getD (p .line) (c - 1) 0) ∷ [])) where
+          block : c - 1 < p .count
+          block = let high = s .high in omega arith
+
+          told : List Entry
+          told = negated (r .ls) (getD (p .line) (c - 1) 0)
+
+          told-down : Downward (signals M₁) told
+          unfolding LinesIn told
+          told-down =
+              let inside = r .refinement .lines (c - 1) block in
+              down-negated (signals M₁) (r .ls) (r .refinement .down) (getD (p .line) (c - 1) 0) (inside .0) (inside .1)
+
+          told-count : length told ≡ p .lines + 1
+          unfolding told
+          told-count = let number = r .number in omega (arith, length-append (r .ls) (neg (getD (p .line) (c - 1) 0) ∷ []))
+
+          told-holds : Holds w told
+          unfolding told
+          told-holds = adds .adds (r .ls) (r .number) (record { size = size; stands = rw (r .number) (r .stands) })
+
+          pub listed : Listed w (p .lines + 1)
+          listed = record { a = signals M₁; lines = told; down = told-down; holds = told-holds; count = told-count }
+
+          pub unequal-answer : (after : List ℕ)
+              → ((a : ℕ) (ls : List Entry) → Downward a ls → Holds w ls → length ls ≡ p .lines + 1
+              → (short : List Entry) × Shortened a ls short × (after ≡ sheet short ++ drop (length (sheet short)) before))
+              → CompareAnswer M₁ M₂ before after Unequal
+          unfolding refusalOf Leaves told
+          unequal-answer after stands =
+              let k = known in
+              let blocks = few-blocks in
+              let short = r .short in
+              let count = told-count in
+              let wrote = stands (signals M₁) told told-down told-holds told-count in
+              let fewer = wrote .1 .few in
+              record {
+                refusal = none-refused M₁ M₂ (length before) e;
+                leaves = (
+                  sheet (wrote .0),
+                  written M₁ M₂ (k .first) (k .few) (wrote .0) (wrote .1 .down) (wrote .1 .some) (omega arith)
+                      (told-shorter M₁ M₂ (k .first) (k .second) (signals M₁) told (wrote .0) (wrote .1)
+                      (unequal (signals M₁) M₁ M₂ (k .first) (k .second) (r .ls) (p .count) (λ c. getD (p .line) c 0) (rowsHas (p .first)) (rowsHas (p .second)) (r .refinement) (c - 1) block (s .found (omega arith))))
+                      before after (wrote .2),
+                );
+              }

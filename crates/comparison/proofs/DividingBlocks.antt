@@ -9,10 +9,9 @@ use mathlib.Core.Bool.{Bool}
 use lib.Dec.{T}
 use Rattle.comparison.specs.Blocks.{Unsplit, Split}
 use Rattle.comparison.specs.Tables.{State, firstOf, secondOf, Room, SplitBlock}
-use Rattle.comparison.specs.Stages.{Ready, NextSplit, Starts, Finer, Kept, Owes, Divided}
+use Rattle.comparison.specs.Stages.{Ready, NextSplit, Starts, Finer, Kept, Divided}
 use Rattle.comparison.proofs.FinerBlocks.{unsplit-part, unsplit-here, unsplit-added, finer-none, finer-then, finer-split, kept-others}
-use Rattle.comparison.proofs.OwedBlocks.{owes-none, owes-then, owes-split}
-use Rattle.comparison.proofs.StagedSplits.{staged-owing, room, ready-again}
+use Rattle.comparison.proofs.StagedSplits.{staged-less, room, ready-again}
 
 -- one more of the numbers from b on
 pub from-more : (P : ℕ → Type 0) (b c : ℕ) → ((d : ℕ) → b ≤ d → d < c → P d) → P c → (d : ℕ) → b ≤ d → d < c + 1 → P d
@@ -31,7 +30,6 @@ pub record Dividing (M₁ M₂ : List ℕ) (st st′ : State) (p : ℕ) (x₁ x�
   pub enough : 4 ≤ spare
   pub settled : st .count ≤ b → 5 ≤ spare
   pub finer : Finer st st′
-  pub owes : Owes st st′
   pub done : (c : ℕ) → c < b → Unsplit M₁ M₂ (firstOf st′) (secondOf st′) c x₁ x₂
   pub added : (c : ℕ) → st .count ≤ c → c < st′ .count → Unsplit M₁ M₂ (firstOf st′) (secondOf st′) c x₁ x₂
   pub divides : b < st .count → Split M₁ M₂ (firstOf st′) (secondOf st′) b x₁ x₂
@@ -44,7 +42,6 @@ module _ (M₁ M₂ : List ℕ) (st : State) (p : ℕ) (x₁ x₂ : ℕ → Bool
     enough = s .enough;
     settled = s .settled;
     finer = finer-none st;
-    owes = owes-none st;
     done = λ c h. s .next .before c (omega arith) h;
     added = λ c l h. absurd (omega arith);
     divides = λ h. s .next .found h (s .ready .staged .ofNodes b h);
@@ -74,7 +71,6 @@ module _ (M₁ M₂ : List ℕ) (st : State) (p : ℕ) (x₁ x₂ : ℕ → Bool
             enough = omega arith;
             settled = λ l. omega arith;
             finer = finer-then st st₁ st₂ (d .finer) (finer-split st₁ st₂ b p x₁ x₂ in-range cut);
-            owes = owes-then st st₁ st₂ (d .owes) (owes-split st₁ st₂ b p x₁ x₂ in-range (dividing-room .count) cut);
             done = λ c l. by-cases (ℕ-discrete c b)
                 (λ q. subst (λ (i : ℕ). Unsplit M₁ M₂ (firstOf st₂) (secondOf st₂) i x₁ x₂) (sym q)
                 (unsplit-here M₁ M₂ (firstOf st₁) (secondOf st₁) (firstOf st₂) (secondOf st₂) (st₁ .count) b x₁ x₂ q₁ q₂))
@@ -88,8 +84,7 @@ module _ (M₁ M₂ : List ℕ) (st : State) (p : ℕ) (x₁ x₂ : ℕ → Bool
 
     pub dividing-end : st .count ≤ b → Divided M₁ M₂ st st₁ x₁ x₂
     dividing-end h = record {
-      staged = staged-owing M₁ M₂ (d .spare) 5 st₁ (st₁ .owed) (d .settled h) (d .ready .staged);
+      staged = staged-less M₁ M₂ (d .spare) 5 st₁ (d .settled h) (d .ready .staged);
       finer = d .finer;
-      owes = d .owes;
       done = λ c l. by-cases (decLt c b) (d .done c) (λ g. d .added c (omega arith) l);
     }

@@ -1,14 +1,14 @@
 -- Finer blocks: the parts of a split, one refinement after another, and that what does not split a block does not split its parts.
-use mathlib.Core.Path.{_≡_, subst, _∙_}
+use mathlib.Core.Path.{_≡_, refl, subst, _∙_}
 use mathlib.Core.Logic.{_≢_, inl, inr, ⊎-map}
 use Prim.Native.Nat.{ℕ, _≤_, _<_}
 use native.Mathlib.Omega.{arith}
 use mathlib.Core.List.{List}
-use mathlib.Core.Bool.{Bool, not}
+use mathlib.Core.Bool.{Bool, true, false, not, _&&_}
 use lib.Dec.{T}
 use Rattle.truth.specs.Passed.{nodes}
 use Rattle.truth.proofs.Passed.{and-left, and-right}
-use Rattle.comparison.specs.Blocks.{Members, In, AllIn, Unsplit}
+use Rattle.comparison.specs.Blocks.{Members, In, AllIn, Meets, Unsplit, Split}
 use Rattle.comparison.specs.Refinement.{Parted}
 use Rattle.comparison.specs.Tables.{State, firstOf, secondOf, SplitBlock}
 use Rattle.comparison.specs.Stages.{Finer, Kept}
@@ -35,6 +35,15 @@ unsplit-as M₁ M₂ m₁ m₂ c x₁ x₂ y₁ y₂ e₁ e₂ =
       λ t i. subst (λ (b : Bool). T (not b)) (e₂ t (i .0) (i .1)) (u .1 t i),
     ))
 
+pub split-as : (M₁ M₂ : List ℕ) (m₁ m₂ : Members) (c : ℕ) (x₁ x₂ y₁ y₂ : ℕ → Bool) → ((s : ℕ) → 1 ≤ s → s ≤ nodes M₁ → x₁ s ≡ y₁ s) → ((t : ℕ) → 1 ≤ t → t ≤ nodes M₂ → x₂ t ≡ y₂ t)
+    → Split M₁ M₂ m₁ m₂ c x₁ x₂ → Split M₁ M₂ m₁ m₂ c y₁ y₂
+unfolding Split Meets In
+split-as M₁ M₂ m₁ m₂ c x₁ x₂ y₁ y₂ e₁ e₂ d = (
+  ⊎-map (λ u. (u .0, u .1, subst T (e₁ (u .0) (u .1 .0) (u .1 .1)) (u .2))) (λ u. (u .0, u .1, subst T (e₂ (u .0) (u .1 .0) (u .1 .1)) (u .2))) (d .0),
+  ⊎-map (λ u. (u .0, u .1, subst (λ (b : Bool). T (not b)) (e₁ (u .0) (u .1 .0) (u .1 .1)) (u .2)))
+      (λ u. (u .0, u .1, subst (λ (b : Bool). T (not b)) (e₂ (u .0) (u .1 .0) (u .1 .1)) (u .2))) (d .1),
+)
+
 -- the parts of a split by the sets
 module _ (M₁ M₂ : List ℕ) (m₁ m₂ m₁′ m₂′ : Members) (count c : ℕ) (x₁ x₂ : ℕ → Bool) (p₁ : Parted count c x₁ m₁ m₁′) (p₂ : Parted count c x₂ m₂ m₂′) where
   pub unsplit-here : Unsplit M₁ M₂ m₁′ m₂′ c x₁ x₂
@@ -46,6 +55,34 @@ module _ (M₁ M₂ : List ℕ) (m₁ m₂ m₁′ m₂′ : Members) (count c :
   unfolding Unsplit AllIn In
   unsplit-added =
       inr (λ s i. and-right (m₁ c s) (not (x₁ s)) (subst T (p₁ .added s) (i .2)), λ t i. and-right (m₂ c t) (not (x₂ t)) (subst T (p₂ .added t) (i .2)))
+
+-- ---- a split by sets that were looked for in the block alone
+
+parted-within : (count c : ℕ) (y x : ℕ → Bool) (mem mem′ : Members) → ((s : ℕ) → y s ≡ (mem c s && x s)) → Parted count c y mem mem′ → Parted count c x mem mem′
+parted-within count c y x mem mem′ e p = record {
+  here = λ s. p .here s ∙ rw (e s) (both (mem c s) (x s));
+  added = λ s. p .added s ∙ rw (e s) (outside (mem c s) (x s));
+  others = p .others;
+}
+  where
+    both : (m q : Bool) → (m && (m && q)) ≡ (m && q)
+    both true q = refl
+    both false q = refl
+
+    outside : (m q : Bool) → (m && not (m && q)) ≡ (m && not q)
+    outside true q = refl
+    outside false q = refl
+
+pub split-within : (st st′ : State) (c p : ℕ) (y₁ y₂ x₁ x₂ : ℕ → Bool) → ((s : ℕ) → y₁ s ≡ (firstOf st c s && x₁ s)) → ((t : ℕ) → y₂ t ≡ (secondOf st c t && x₂ t))
+    → SplitBlock st st′ c p y₁ y₂ → SplitBlock st st′ c p x₁ x₂
+split-within st st′ c p y₁ y₂ x₁ x₂ e₁ e₂ b = record {
+  first = record { size = b .first .size; parted = parted-within (st .count) c y₁ x₁ (firstOf st) (firstOf st′) e₁ (b .first .parted) };
+  second = record { size = b .second .size; parted = parted-within (st .count) c y₂ x₂ (secondOf st) (secondOf st′) e₂ (b .second .parted) };
+  line = b .line;
+  words = b .words;
+  count = b .count;
+  lines = b .lines;
+}
 
 -- ---- finer blocks
 

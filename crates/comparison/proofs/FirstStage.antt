@@ -3,7 +3,7 @@ use mathlib.Core.Path.{_≡_, subst, ap, _∙_}
 use Prim.Native.Nat.{ℕ, _+_, _≤_, _<_}
 use native.Mathlib.Omega.{arith}
 use mathlib.Core.List.{List}
-use mathlib.Core.Bool.{Bool, true, _&&_}
+use mathlib.Core.Bool.{true, _&&_}
 use borrow.Author.Tests.{le-leb}
 use lib.ListN.{length, getD, set, length-set}
 use lib.Seq.{getD-set-same}
@@ -37,12 +37,12 @@ module _ (M before after : List ℕ) (low high n : ℕ) (size : length before �
 
 pub begun : (M₁ M₂ : List ℕ) → machineRefusal M₁ ≡ 0 → machineRefusal M₂ ≡ 0 → nodes M₁ + nodes M₂ ≤ 128
     → (a n₁ n₂ : ℕ) → a ≡ signals M₁ → n₁ ≡ nodes M₁ → n₂ ≡ nodes M₂
-    → (first₀ first second₀ second line words : List ℕ) (l₁ h₁ l₂ h₂ : ℕ) (owed : ℕ → Bool) → length first₀ ≡ 512 → length second₀ ≡ 512 → length line ≡ 256
+    → (first₀ first second₀ second line words : List ℕ) (l₁ h₁ l₂ h₂ : ℕ) → length first₀ ≡ 512 → length second₀ ≡ 512 → length line ≡ 256
     → first ≡ set (set first₀ 0 l₁) 1 h₁ → second ≡ set (set second₀ 0 l₂) 1 h₂
     → ((s : ℕ) → held l₁ h₁ s ≡ (leb s n₁ && within 1 128 s)) → ((s : ℕ) → held l₂ h₂ s ≡ (leb s n₂ && within 1 128 s)) → Holds words (firstLines a)
-    → Staged M₁ M₂ 5 (record { first = first; second = second; line = set line 0 (a + 2); words = words; count = 1; lines = a + 2; owed = owed })
+    → Staged M₁ M₂ 5 (record { first = first; second = second; line = set line 0 (a + 2); words = words; count = 1; lines = a + 2 })
 unfolding OfNodes
-begun M₁ M₂ ok₁ ok₂ sum a n₁ n₂ ea e₁ e₂ first₀ first second₀ second line words l₁ h₁ l₂ h₂ owed z₁ z₂ z s₁ s₂ r₁ r₂ holds =
+begun M₁ M₂ ok₁ ok₂ sum a n₁ n₂ ea e₁ e₂ first₀ first second₀ second line words l₁ h₁ l₂ h₂ z₁ z₂ z s₁ s₂ r₁ r₂ holds =
     let some = signals-sized M₁ ok₁ in
     let at : getD (set line 0 (a + 2)) 0 0 ≡ signals M₁ + 2 = getD-set-same line 0 (a + 2) 0 (omega arith) ∙ ap (λ (k : ℕ). k + 2) ea in
     let length-first = first-length (signals M₁) (some .0) (some .1) in

@@ -17,10 +17,13 @@ pub mod Outcome
 pub mod HeldLines
 pub mod BlockTables
 pub mod FinerBlocks
-pub mod OwedBlocks
 pub mod StagedSplits
 pub mod DividingBlocks
 pub mod Splitters
+pub mod HighestNode
+pub mod MarkedBlocks
+pub mod Surveys
+pub mod TurningBlocks
 pub mod SettlingBlocks
 pub mod FirstStage
 pub mod QuestionTables
@@ -33,3 +36,8 @@ pub mod OneBlock
 pub mod ToldByLines
 pub mod MarkedMachines
 pub mod MarkedCases
+pub mod TakenLines
+pub mod EachLine
+pub mod MergedLines
+pub mod NeededLines
+pub mod ShorterRules

@@ -54,7 +54,7 @@ padded (x ∷ p) n zero h = absurd (omega arith)
 padded (x ∷ p) n (suc k) h = padded p n k (omega arith)
 
 -- word k of record i, counted from 0; past the end both sides are 0
-word-of-line : (ls : List Entry) (i k : ℕ) → k < 6 → getD (lineWords ls) (6 * i + k) 0 ≡ getD (words (getD ls i (sig 0))) k 0
+pub word-of-line : (ls : List Entry) (i k : ℕ) → k < 6 → getD (lineWords ls) (6 * i + k) 0 ≡ getD (words (getD ls i (sig 0))) k 0
 unfolding lineWords words
 word-of-line [] i k h = sym (padded [] 6 k (omega arith))
 word-of-line (l ∷ ls) zero k h =

@@ -1,7 +1,6 @@
--- The splitters: a signal, and "some next of a block" by a line written for it. What they are ready for, and what they come to.
-use mathlib.Core.Path.{_≡_, refl, sym, _∙_}
-use mathlib.Core.Logic.{_≢_}
-use Prim.Native.Nat.{ℕ, _+_, _*_, _≤_, _<_}
+-- The splitters: a signal, and "some next" of a set by a line written for it. What they are ready for, and what they come to.
+use mathlib.Core.Path.{_≡_, sym, _∙_}
+use Prim.Native.Nat.{ℕ, _+_, _*_, _≤_}
 use native.Mathlib.Omega.{arith}
 use mathlib.Core.List.{List, [], _∷_, _++_}
 use mathlib.Core.Bool.{Bool, _&&_}
@@ -13,14 +12,13 @@ use Rattle.truth.specs.Rows.{rowHas, rowsHas, leadsInto}
 use Rattle.truth.specs.declared.rows.Row.{Row}
 use Rattle.truth.proofs.Passed.{intoSet, passed, within-in, nodes-sized}
 use Rattle.comparison.specs.Lines.{Entry, next, Adds}
-use Rattle.comparison.specs.Refinement.{LinesIn}
-use Rattle.comparison.specs.Tables.{State, firstOf, secondOf, lineOf}
-use Rattle.comparison.specs.Stages.{Staged, Cut, NextSplit, Starts, Finer, Owes, Divided}
+use Rattle.comparison.specs.Blocks.{Exact}
+use Rattle.comparison.specs.Tables.{State, firstOf, secondOf, lineOf, written}
+use Rattle.comparison.specs.Stages.{Staged, Cut, Ready, NextSplit, Starts, Divided}
 use Rattle.comparison.proofs.AddedLines.{entry-above}
 use Rattle.comparison.proofs.ExactLines.{exact-as, exact-sig, next-down, next-added}
 use Rattle.comparison.proofs.Refinement.{grows}
-use Rattle.comparison.proofs.FinerBlocks.{unsplit-as, finer-none, finer-then}
-use Rattle.comparison.proofs.OwedBlocks.{owes-none, owes-then}
+use Rattle.comparison.proofs.FinerBlocks.{unsplit-as}
 
 -- ---- the sets in rows
 
@@ -31,11 +29,11 @@ passing n q s = leb s n && (within 1 128 s && q s)
 passing-node : (n : ℕ) (q : ℕ → Bool) (s : ℕ) → n ≤ 128 → 1 ≤ s → s ≤ n → passing n q s ≡ q s
 passing-node n q s h lo hi = rw (le-leb s n hi, passed (within 1 128 s) (within-in 1 128 s lo (omega arith)))
 
--- some next of a row that was loaded
-pub loaded-next : (M B : List ℕ) (r : Row) (d s : ℕ) → (r .low ≡ getD B (2 * d) 0) × (r .high ≡ getD B (2 * d + 1) 0)
-    → passing (nodes M) (leadsInto M (rowHas r)) s ≡ passing (nodes M) (intoSet M (rowsHas B d)) s
+-- the nodes of a row with an edge into another, both loaded
+pub loaded-leading : (M B : List ℕ) (r q : Row) (c d s : ℕ) → (r .low ≡ getD B (2 * c) 0) × (r .high ≡ getD B (2 * c + 1) 0)
+    → (q .low ≡ getD B (2 * d) 0) × (q .high ≡ getD B (2 * d + 1) 0) → (rowHas r s && leadsInto M (rowHas q) s) ≡ (rowsHas B c s && intoSet M (rowsHas B d) s)
 unfolding leadsInto intoSet
-loaded-next M B r d s e = rw (e .0, e .1)
+loaded-leading M B r q c d s e f = rw (e .0, e .1, f .0, f .1)
 
 module _ (M₁ M₂ : List ℕ) (st : State) (w : Staged M₁ M₂ 5 st) (y₁ y₂ x₁ x₂ : ℕ → Bool) (e₁ : (s : ℕ) → x₁ s ≡ passing (nodes M₁) y₁ s) (e₂ : (t : ℕ) → x₂ t ≡ passing (nodes M₂) y₂ t) where
   same₁ : (s : ℕ) → 1 ≤ s → s ≤ nodes M₁ → x₁ s ≡ y₁ s
@@ -56,18 +54,8 @@ module _ (M₁ M₂ : List ℕ) (st : State) (w : Staged M₁ M₂ 5 st) (y₁ y
   divided-rows st′ d = record {
     staged = d .staged;
     finer = d .finer;
-    owes = d .owes;
     done = λ c h. unsplit-as M₁ M₂ (firstOf st′) (secondOf st′) c x₁ x₂ y₁ y₂ same₁ same₂ (d .done c h);
   }
-
-  -- nothing is split
-  pub divided-none : (c : ℕ) → NextSplit M₁ M₂ (firstOf st) (secondOf st) 0 (st .count) x₁ x₂ c → c ≡ st .count → Divided M₁ M₂ st st y₁ y₂
-  divided-none c n e = divided-rows st (record {
-    staged = w;
-    finer = finer-none st;
-    owes = owes-none st;
-    done = λ b h. n .before b (omega arith) (omega arith);
-  })
 
 -- ---- signal i
 pub signal-starts : (M₁ M₂ : List ℕ) (st : State) → Staged M₁ M₂ 5 st → (i : ℕ) → 1 ≤ i → i ≤ signals M₁ → (x₁ x₂ : ℕ → Bool)
@@ -94,25 +82,14 @@ signal-starts M₁ M₂ st w i lo hi x₁ x₂ e₁ e₂ c n =
       next = n;
     }
 
--- ---- some next of block d
-module _ (M₁ M₂ : List ℕ) (st : State) (w : Staged M₁ M₂ 5 st) (d : ℕ) (h : d < st .count) (words′ : List ℕ) (adds : Adds (st .words) words′ (st .lines) (next (lineOf st d) ∷ [])) where
+-- ---- some next of the sets where line l is true
+module _ (M₁ M₂ : List ℕ) (st : State) (w : Staged M₁ M₂ 5 st) (l : ℕ) (lo : 1 ≤ l) (hi : l ≤ length (w .ls)) (words′ : List ℕ)
+    (adds : Adds (st .words) words′ (st .lines) (next l ∷ [])) where
   -- its line is written
-  abbrev pub written : State
-  written = record {
-    first = st .first;
-    second = st .second;
-    line = st .line;
-    words = words′;
-    count = st .count;
-    lines = st .lines + 1;
-    owed = st .owed;
-  }
-
-  staged-written : Staged M₁ M₂ 4 written
-  unfolding LinesIn
+  staged-written : Staged M₁ M₂ 4 (written st words′)
   staged-written =
       let r = w .refinement in
-      let more = next (lineOf st d) ∷ [] in
+      let more = next l ∷ [] in
       let size = length-append (w .ls) more in
       let number = w .number in
       let below = w .below in
@@ -128,52 +105,30 @@ module _ (M₁ M₂ : List ℕ) (st : State) (w : Staged M₁ M₂ 5 st) (d : �
         number = omega arith;
         holds = adds .adds (w .ls) number (w .holds);
         refinement = grows (signals M₁) M₁ M₂ (w .accepted₁) (w .accepted₂) (w .ls) (st .count) (lineOf st) (firstOf st) (secondOf st) r more
-            (next-down (signals M₁) (w .ls) (r .down) (lineOf st d) (r .lines d h .0) (r .lines d h .1));
+            (next-down (signals M₁) (w .ls) (r .down) l lo hi);
         ofNodes = w .ofNodes;
-        signal = λ i lo hi. entry-above (w .ls) more i lo (omega arith) ∙ w .signal i lo hi;
+        signal = λ i a b. entry-above (w .ls) more i a (omega arith) ∙ w .signal i a b;
         below = omega arith;
         short = omega arith;
       }
 
-  cut-written : Cut M₁ M₂ (w .ls ++ next (lineOf st d) ∷ []) (st .lines + 1) (intoSet M₁ (firstOf st d)) (intoSet M₂ (secondOf st d))
-  unfolding LinesIn
-  cut-written =
-      let r = w .refinement in
-      let size = length-append (w .ls) (next (lineOf st d) ∷ []) in
-      let number = w .number in
-      record {
-        from = omega arith;
-        to = omega arith;
-        first = rw number at (next-added (signals M₁) (w .ls) (r .down) (lineOf st d) (r .lines d h .0) (r .lines d h .1) M₁ (w .accepted₁) (firstOf st d) (r .first .exact d h));
-        second = rw number at (next-added (signals M₁) (w .ls) (r .down) (lineOf st d) (r .lines d h .0) (r .lines d h .1) M₂ (w .accepted₂) (secondOf st d) (r .second .exact d h));
-      }
-
-  module _ (x₁ x₂ : ℕ → Bool) (e₁ : (s : ℕ) → x₁ s ≡ passing (nodes M₁) (intoSet M₁ (firstOf st d)) s) (e₂ : (t : ℕ) → x₂ t ≡ passing (nodes M₂) (intoSet M₂ (secondOf st d)) t) where
-    pub next-starts : (c : ℕ) → NextSplit M₁ M₂ (firstOf st) (secondOf st) 0 (st .count) x₁ x₂ c → c ≢ st .count → Starts M₁ M₂ written c (st .lines + 1) x₁ x₂
+  module _ (q₁ q₂ x₁ x₂ : ℕ → Bool) (e₁ : Exact M₁ (w .ls) l q₁) (e₂ : Exact M₂ (w .ls) l q₂)
+      (same₁ : (s : ℕ) → 1 ≤ s → s ≤ nodes M₁ → x₁ s ≡ intoSet M₁ q₁ s) (same₂ : (t : ℕ) → 1 ≤ t → t ≤ nodes M₂ → x₂ t ≡ intoSet M₂ q₂ t) where
+    pub ready-written : Ready M₁ M₂ 4 (written st words′) (st .lines + 1) x₁ x₂
     unfolding staged-written
-    next-starts c n f =
-        let high = n .high in
+    ready-written =
+        let down = w .refinement .down in
+        let ls′ = w .ls ++ next l ∷ [] in
+        let size = length-append (w .ls) (next l ∷ []) in
+        let number = w .number in
         record {
-          spare = 4;
-          ready = record {
-            staged = staged-written;
-            cut = cut-rows M₁ M₂ st w (intoSet M₁ (firstOf st d)) (intoSet M₂ (secondOf st d)) x₁ x₂ e₁ e₂ (w .ls ++ next (lineOf st d) ∷ []) (st .lines + 1) cut-written;
+          staged = staged-written;
+          cut = record {
+            from = omega arith;
+            to = omega arith;
+            first = exact-as M₁ ls′ (st .lines + 1) (intoSet M₁ q₁) x₁ (λ s a b. sym (same₁ s a b))
+                (rw number at (next-added (signals M₁) (w .ls) down l lo hi M₁ (w .accepted₁) q₁ e₁));
+            second = exact-as M₂ ls′ (st .lines + 1) (intoSet M₂ q₂) x₂ (λ t a b. sym (same₂ t a b))
+                (rw number at (next-added (signals M₁) (w .ls) down l lo hi M₂ (w .accepted₂) q₂ e₂));
           };
-          enough = omega arith;
-          settled = λ l. absurd (f (omega arith));
-          next = n;
         }
-
-    pub next-divided : (st′ : State) → Divided M₁ M₂ written st′ x₁ x₂ → Divided M₁ M₂ st st′ (intoSet M₁ (firstOf st d)) (intoSet M₂ (secondOf st d))
-    next-divided st′ v = divided-rows M₁ M₂ st w (intoSet M₁ (firstOf st d)) (intoSet M₂ (secondOf st d)) x₁ x₂ e₁ e₂ st′ (record {
-      staged = v .staged;
-      finer = finer-then st written st′ same-blocks (v .finer);
-      owes = owes-then st written st′ same-owed (v .owes);
-      done = v .done;
-    })
-      where
-        same-blocks : Finer st written
-        same-blocks = record { more = omega arith; part = λ b l. (b, l, λ s t. t, λ s t. t) }
-
-        same-owed : Owes st written
-        same-owed = record { kept = λ b l e. (record { was = l; first = λ s. refl; second = λ t. refl }, e); only = λ o. o; weight = omega arith }

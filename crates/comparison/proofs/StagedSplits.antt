@@ -30,21 +30,9 @@ lines-fit M₁ M₂ spare st s =
     let few = s .refinement .down .few in
     omega arith
 
--- the same tables and numbers, where other blocks are owed
-abbrev pub owing : State → (ℕ → Bool) → State
-owing st owed = record {
-  first = st .first;
-  second = st .second;
-  line = st .line;
-  words = st .words;
-  count = st .count;
-  lines = st .lines;
-  owed = owed;
-}
-
 -- lines may be fewer
-pub staged-owing : (M₁ M₂ : List ℕ) (n m : ℕ) (st : State) (owed : ℕ → Bool) → m ≤ n → Staged M₁ M₂ n st → Staged M₁ M₂ m (owing st owed)
-staged-owing M₁ M₂ n m st owed h s =
+pub staged-less : (M₁ M₂ : List ℕ) (n m : ℕ) (st : State) → m ≤ n → Staged M₁ M₂ n st → Staged M₁ M₂ m st
+staged-less M₁ M₂ n m st h s =
     let short = s .short in
     record {
       accepted₁ = s .accepted₁;

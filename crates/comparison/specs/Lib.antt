@@ -5,5 +5,7 @@ pub mod Blocks
 pub mod Refinement
 pub mod Tables
 pub mod Stages
+pub mod Signatures
 pub mod Answers
 pub mod Sides
+pub mod Needed

@@ -1,12 +1,12 @@
 -- Stages of refinement: what holds of the tables between two splits, what a splitter changes, and what holds at the end.
 use mathlib.Core.Path.{_≡_}
-use Prim.Native.Nat.{ℕ, _+_, _-_, _*_, _≤_, _<_}
+use Prim.Native.Nat.{ℕ, _+_, _*_, _≤_, _<_}
 use mathlib.Core.List.{List}
-use mathlib.Core.Bool.{Bool, true, false}
+use mathlib.Core.Bool.{Bool}
 use lib.ListN.{length, getD, take}
 use lib.Dec.{T}
 use Rattle.truth.specs.Passed.{kripke, nodes, signals, machineRefusal}
-use Rattle.truth.specs.Rows.{rowsHas, tally}
+use Rattle.truth.specs.Rows.{rowsHas}
 use Rattle.truth.proofs.Passed.{intoSet}
 use Rattle.comparison.specs.Lines.{Entry, sig, lineWords, entry, Holds}
 use Rattle.comparison.specs.Blocks.{Exact, Members, Unsplit, Split}
@@ -80,18 +80,10 @@ pub record Kept (st st′ : State) (d : ℕ) : Type 0 where
   pub first : (s : ℕ) → firstOf st′ d s ≡ firstOf st d s
   pub second : (t : ℕ) → secondOf st′ d t ≡ secondOf st d t
 
--- A block that is not owed afterwards was not owed before, and has the same nodes. Only blocks are owed. The weight, three for each
--- block that may still come and one for each that is owed, does not rise: a split makes at most two owed.
-pub record Owes (st st′ : State) : Type 0 where
-  pub kept : (d : ℕ) → d < st′ .count → st′ .owed (d + 1) ≡ false → Kept st st′ d × (st .owed (d + 1) ≡ false)
-  pub only : ((d : ℕ) → T (st .owed d) → d ≤ st .count) → (d : ℕ) → T (st′ .owed d) → d ≤ st′ .count
-  pub weight : 3 * (128 - st′ .count) + tally 128 (st′ .owed) ≤ 3 * (128 - st .count) + tally 128 (st .owed)
-
 -- the sets split no block any more
 pub record Divided (M₁ M₂ : List ℕ) (st st′ : State) (x₁ x₂ : ℕ → Bool) : Type 0 where
   pub staged : Staged M₁ M₂ 5 st′
   pub finer : Finer st st′
-  pub owes : Owes st st′
   pub done : (c : ℕ) → c < st′ .count → Unsplit M₁ M₂ (firstOf st′) (secondOf st′) c x₁ x₂
 
 -- ---- what holds at the end
@@ -108,11 +100,6 @@ NextsDone M₁ M₂ count m₁ m₂ = (c d : ℕ) → c < count → d < count �
 pub record Signalled (M₁ M₂ : List ℕ) (st : State) : Type 0 where
   pub staged : Staged M₁ M₂ 5 st
   pub signals-done : SignalsDone M₁ M₂ (st .count) (firstOf st) (secondOf st)
-
--- every block is owed, and only blocks
-pub record AllOwed (st : State) : Type 0 where
-  pub each : (d : ℕ) → d < st .count → st .owed (d + 1) ≡ true
-  pub only : (d : ℕ) → T (st .owed d) → d ≤ st .count
 
 pub record Settled (M₁ M₂ : List ℕ) (st : State) : Type 0 where
   pub signalled : Signalled M₁ M₂ st

@@ -2,18 +2,18 @@
 use mathlib.Core.Path.{_≡_}
 use Prim.Native.Nat.{ℕ, _+_, _≤_, _<_}
 use mathlib.Core.List.{List}
-use mathlib.Core.Bool.{Bool, true, false, _||_}
+use mathlib.Core.Bool.{Bool, true, false}
 use lib.ListN.{length, getD}
-use lib.Dec.{T, eqb}
+use lib.Dec.{T}
 use Rattle.truth.specs.Passed.{nodes}
-use Rattle.truth.specs.Rows.{rowHas, rowsHas}
+use Rattle.truth.specs.Rows.{rowsHas}
 use Rattle.comparison.specs.Lines.{split, Adds}
 use Rattle.comparison.specs.Blocks.{Members, Meets, Unsplit, Split}
 use Rattle.comparison.specs.Refinement.{Parted, Lined}
 use Rattle.comparison.specs.declared.blocks.Stand.{Stand}
 
 -- The tables and numbers that refinement works on: row c of `first` and of `second` has the nodes of block c of each machine,
--- `line` at c its line, and `words` the words of the written lines. Block c is owed as a splitter if `owed` has c + 1.
+-- `line` at c its line, and `words` the words of the written lines.
 pub record State : Type 0 where
   pub first : List ℕ
   pub second : List ℕ
@@ -21,7 +21,6 @@ pub record State : Type 0 where
   pub words : List ℕ
   pub count : ℕ
   pub lines : ℕ
-  pub owed : ℕ → Bool
 
 abbrev pub state : List ℕ → List ℕ → List ℕ → List ℕ → Stand → State
 state first second line words stand = record {
@@ -31,7 +30,6 @@ state first second line words stand = record {
   words = words;
   count = stand .count;
   lines = stand .lines;
-  owed = rowHas (stand .owed);
 }
 
 abbrev pub firstOf : State → Members
@@ -43,6 +41,17 @@ secondOf st = rowsHas (st .second)
 abbrev pub lineOf : State → ℕ → ℕ
 lineOf st c = getD (st .line) c 0
 
+-- one line more is written
+abbrev pub written : State → List ℕ → State
+written st words = record {
+  first = st .first;
+  second = st .second;
+  line = st .line;
+  words = words;
+  count = st .count;
+  lines = st .lines + 1;
+}
+
 -- ---- a split
 
 pub record PartedRows (count c : ℕ) (x : ℕ → Bool) (before after : List ℕ) : Type 0 where
@@ -53,11 +62,10 @@ pub record LinedBlocks (count c n : ℕ) (before after : List ℕ) : Type 0 wher
   pub size : length after ≡ 256
   pub lined : Lined count c n (λ d. getD before d 0) (λ d. getD after d 0)
 
--- the numbers after a split of block c, both parts of which are owed
-pub record Advanced (before after : Stand) (c : ℕ) : Type 0 where
+-- the numbers after a split
+pub record Advanced (before after : Stand) : Type 0 where
   pub count : after .count ≡ before .count + 1
   pub lines : after .lines ≡ before .lines + 6
-  pub owed : (d : ℕ) → rowHas (after .owed) d ≡ ((rowHas (before .owed) d || eqb d (c + 1)) || eqb d (before .count + 1))
 
 -- room for a split of block c
 pub record Room (st : State) (c : ℕ) : Type 0 where
@@ -77,7 +85,6 @@ pub record SplitBlock (st st′ : State) (c p : ℕ) (x₁ x₂ : ℕ → Bool) 
   pub words : Adds (st .words) (st′ .words) (st .lines) (split (st .lines) (lineOf st c) p)
   pub count : st′ .count ≡ st .count + 1
   pub lines : st′ .lines ≡ st .lines + 6
-  pub owed : (d : ℕ) → st′ .owed d ≡ ((st .owed d || eqb d (c + 1)) || eqb d (st .count + 1))
 
 -- ---- what is told
 

@@ -10,24 +10,20 @@ use truth::rows::Row;
 use truth::tables::load;
 use truth::tables::store;
 
-// How far refinement has come: blocks, written lines, and the blocks that are owed as splitters, block c as c + 1.
+// How far refinement has come: blocks and written lines.
 pub struct Stand {
     pub count: u16,
     pub lines: u16,
-    pub owed: Row,
 }
 
 impl Stand {
-    // After a split of block c both parts are owed.
-    fn after_split(self, c: u16) -> Stand
-        requires { ⌜ (c < 128) × (self .count < 128) × (self .lines < 938) ⌝ }
-        ensures { λ r. ⌜ Advanced self r c ⌝ }
+    fn after_split(self) -> Stand
+        requires { ⌜ (self .count < 128) × (self .lines < 938) ⌝ }
+        ensures { λ r. ⌜ Advanced self r ⌝ }
     {
-        let both = self.owed.with(c + 1).with(self.count + 1);
         Stand {
             count: self.count + 1,
             lines: self.lines + 6,
-            owed: both,
         }
     }
 }
@@ -100,5 +96,5 @@ pub fn split_block(
     relabel(line, stand.count, c, stand.lines);
     part(first, stand.count, c, x1);
     part(second, stand.count, c, x2);
-    stand.after_split(c)
+    stand.after_split()
 }

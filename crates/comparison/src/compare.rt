@@ -2,16 +2,19 @@
 ghost use mathlib.Core.Path.{_≡_};
 ghost use Prim.Native.Nat.{ℕ, _+_, _-_, _*_, _<_, _≤_};
 ghost use mathlib.Core.Bool.{Bool, not, _&&_};
-ghost use mathlib.Core.List.{List, [], _∷_, _++_};
-ghost use lib.ListN.{length, take, drop};
+ghost use mathlib.Core.List.{List, _++_};
+ghost use lib.ListN.{length, drop};
 ghost use lib.Seq.{paste};
 ghost use Rattle.truth.specs.Passed as Passed;
 ghost use Rattle.truth.specs.Rows.{rowHas, rowsHas};
 ghost use Rattle.comparison.specs.Comparison as Comparison;
-ghost use Rattle.comparison.specs.Lines.{Entry, neg, words, lineWords, head, sheet};
+ghost use Rattle.comparison.specs.Lines.{Entry, head, sheet, Downward, Holds};
+ghost use Rattle.comparison.specs.Needed.{Listed, Shortened};
 ghost use Rattle.comparison.specs.Sides.{OneSided};
 ghost use Rattle.comparison.specs.Answers.{comparisonQuestions, CompareAnswer};
+use crate::needed::shorten;
 use crate::refine::refine;
+use crate::writing::write_not;
 use truth::header;
 use truth::rows::Row;
 use truth::structure;
@@ -171,23 +174,15 @@ fn put_lines(space: &mut [u16], written: &[u16; 5632], n: u16)
     copy(space, 33, written, 6 * n as usize);
 }
 
-// The line below n lines: not line j.
-fn put_last(space: &mut [u16], n: u16, j: u16)
-    requires { ⌜ 33 + 6 * n + 6 ≤ length (now space) ⌝ }
-    ensures { λ r. ⌜ now (space .exit) ≡ paste (now (space .entry)) (33 + 6 * n) (words (neg j)) 6 ⌝ }
+// The sheet of the lines that the last of n written lines needs.
+fn put_sheet(space: &mut [u16], written: &[u16; 5632], n: u16)
+    requires { ⌜ (33 + 6 * n ≤ length (now space)) × (1 ≤ n) × (n ≤ 938) × Listed (now written) n ⌝ }
+    ensures { λ r. ⌜ ((a : ℕ) (ls : List Entry) → Downward a ls → Holds (now (written .entry)) ls → length ls ≡ n → (short : List Entry) × Shortened a ls short × (now (space .exit) ≡ sheet short ++ drop (length (sheet short)) (now (space .entry)))) ⌝ }
 {
-    let last = [1, j, 0, 0, 0, 0];
-    copy(space, 33 + 6 * n as usize, &last, 6);
-}
-
-// The sheet of n written lines and, below them, not line j.
-fn put_sheet(space: &mut [u16], written: &[u16; 5632], n: u16, j: u16)
-    requires { ⌜ (39 + 6 * n ≤ length (now space)) × (n < 938) × (length (now written) ≡ 5632) ⌝ }
-    ensures { λ r. ⌜ ((ls : List Entry) → length ls ≡ n → take (6 * n) (now (written .entry)) ≡ lineWords ls → now (space .exit) ≡ sheet (ls ++ neg j ∷ []) ++ drop (length (sheet (ls ++ neg j ∷ []))) (now (space .entry))) ⌝ }
-{
-    put_head(space, n + 1);
-    put_lines(space, written, n);
-    put_last(space, n, j);
+    let mut lines = [0u16; 5632];
+    let count = shorten(written, n, &mut lines);
+    put_head(space, count);
+    put_lines(space, &lines, count);
 }
 
 // Compares two machine sheets. Unequal, a rule that exactly one of them keeps is written at the head of the space; otherwise nothing is.
@@ -207,6 +202,9 @@ pub fn compare(m1: &[u16], m2: &[u16], space: &mut [u16]) -> Answer
         return Answer::Equal;
     }
     let line = p.line[(c - 1) as usize];
-    put_sheet(space, &p.words, p.lines, line);
+    let n = p.lines;
+    let mut words = p.words;
+    write_not(&mut words, n, line);
+    put_sheet(space, &words, n + 1);
     Answer::Unequal
 }

@@ -6,11 +6,16 @@ ghost use lib.ListN.{length};
 ghost use Rattle.truth.specs.Passed as Passed;
 ghost use Rattle.truth.specs.Rows.{rowHas, rowsHas};
 ghost use Rattle.truth.proofs.Passed.{intoSet};
-ghost use Rattle.comparison.specs.Tables.{state};
-ghost use Rattle.comparison.specs.Stages.{Staged, NextSplit, Starts, Divisible, Divided, Signalled, AllOwed, Settled, Partitioned};
+ghost use Rattle.comparison.specs.Tables.{state, written, Room, SplitBlock};
+ghost use Rattle.comparison.specs.Stages.{Staged, NextSplit, Starts, Divisible, Divided, Signalled, Settled, Partitioned};
+ghost use Rattle.comparison.specs.Signatures.{MarkedRow, Turned};
 use crate::blocks::Stand;
 use crate::blocks::split_block;
 use crate::blocks::splits;
+use crate::signatures::leading;
+use crate::signatures::mark_row;
+use crate::signatures::marks;
+use crate::signatures::splitter;
 use crate::writing::write_first;
 use crate::writing::write_next;
 use truth::header;
@@ -125,7 +130,7 @@ fn by_signals(
     so_far
 }
 
-// Splits every block by "some next of block d". Its line is written only if it splits one.
+// Block c is split by "some next of block d", for which the line was written just now.
 fn by_next(
     m1: &[u16],
     m2: &[u16],
@@ -134,43 +139,85 @@ fn by_next(
     line: &mut [u16; 256],
     words: &mut [u16; 5632],
     stand: Stand,
+    c: u16,
     d: u16,
 ) -> Stand
-    requires { ⌜ Staged (now m1) (now m2) 5 (state (now first) (now second) (now line) (now words) stand) × (d < stand .count) ⌝ }
+    requires { ⌜ (d < 256) × Room (written (state (now first) (now second) (now line) (now words) stand) (now words)) c ⌝ }
     ensures { λ r. ⌜
-        Divided (now (m1 .entry)) (now (m2 .entry))
-        (state (now (first .entry)) (now (second .entry)) (now (line .entry)) (now (words .entry)) stand)
+        SplitBlock
+        (written (state (now (first .entry)) (now (second .entry)) (now (line .entry)) (now (words .entry)) stand) (now (words .entry)))
         (state (now (first .exit)) (now (second .exit)) (now (line .exit)) (now (words .exit)) r)
+        c (stand .lines + 1)
         (intoSet (now (m1 .entry)) (rowsHas (now (first .entry)) d)) (intoSet (now (m2 .entry)) (rowsHas (now (second .entry)) d))
         ⌝ }
 {
-    let x1 = structure::some_next(m1, load(first, d as usize));
-    let x2 = structure::some_next(m2, load(second, d as usize));
-    let c = next_split(first, second, 0, stand.count, x1, x2);
-    if c == stand.count {
-        return stand;
-    }
-    write_next(words, stand.lines, line[d as usize]);
-    let owed = stand.owed;
-    let written = Stand {
+    let x1 = leading(m1, load(first, c as usize), load(first, d as usize));
+    let x2 = leading(m2, load(second, c as usize), load(second, d as usize));
+    let p = stand.lines + 1;
+    let next = Stand {
         count: stand.count,
-        lines: stand.lines + 1,
-        owed: owed,
+        lines: p,
     };
-    divide(
-        first,
-        second,
-        line,
-        words,
-        written,
-        c,
-        stand.lines + 1,
-        x1,
-        x2,
-    )
+    split_block(first, second, line, words, next, c, p, x1, x2)
 }
 
-// Splits by "some next" of every block that is owed, until none is.
+// The marks of the nodes of block c, which is new.
+fn mark_block(
+    mark1: &mut [u16; 256],
+    mark2: &mut [u16; 256],
+    first: &[u64; 512],
+    second: &[u64; 512],
+    c: u16,
+)
+    requires { ⌜ (c < 256) × (length (now mark1) ≡ 256) × (length (now mark2) ≡ 256) ⌝ }
+    ensures { λ r. ⌜
+        MarkedRow (rowsHas (now (first .entry)) c) (c + 1) (now (mark1 .entry)) (now (mark1 .exit))
+        × MarkedRow (rowsHas (now (second .entry)) c) (c + 1) (now (mark2 .entry)) (now (mark2 .exit))
+        ⌝ }
+{
+    mark_row(mark1, load(first, c as usize), c + 1);
+    mark_row(mark2, load(second, c as usize), c + 1);
+}
+
+// One look at every block, also at those that come: a block is split by a mark in which two of its nodes differ, until there is none.
+fn turn(
+    m1: &[u16],
+    m2: &[u16],
+    first: &mut [u64; 512],
+    second: &mut [u64; 512],
+    line: &mut [u16; 256],
+    words: &mut [u16; 5632],
+    stand: Stand,
+) -> Stand
+    requires { ⌜ Staged (now m1) (now m2) 5 (state (now first) (now second) (now line) (now words) stand) ⌝ }
+    ensures { λ r. ⌜
+        Turned (now (m1 .entry)) (now (m2 .entry))
+        (state (now (first .entry)) (now (second .entry)) (now (line .entry)) (now (words .entry)) stand)
+        (state (now (first .exit)) (now (second .exit)) (now (line .exit)) (now (words .exit)) r)
+        ⌝ }
+{
+    let mut mark1 = marks(first, stand.count);
+    let mut mark2 = marks(second, stand.count);
+    let mut all = structure::node_row(stand.count);
+    let mut so_far = stand;
+    let mut c: u16 = 0;
+    while c < so_far.count {
+        let row1 = load(first, c as usize);
+        let row2 = load(second, c as usize);
+        let e = splitter(m1, m2, &mark1, &mark2, all, row1, row2);
+        if e == 0 {
+            c += 1;
+        } else {
+            write_next(words, so_far.lines, line[e as usize - 1]);
+            so_far = by_next(m1, m2, first, second, line, words, so_far, c, e - 1);
+            mark_block(&mut mark1, &mut mark2, first, second, so_far.count - 1);
+            all = all.with(so_far.count);
+        }
+    }
+    so_far
+}
+
+// Turns, until one splits no block.
 fn by_nexts(
     m1: &[u16],
     m2: &[u16],
@@ -180,21 +227,16 @@ fn by_nexts(
     words: &mut [u16; 5632],
     stand: Stand,
 ) -> Stand
-    requires { ⌜ Signalled (now m1) (now m2) (state (now first) (now second) (now line) (now words) stand) × AllOwed (state (now first) (now second) (now line) (now words) stand) ⌝ }
+    requires { ⌜ Signalled (now m1) (now m2) (state (now first) (now second) (now line) (now words) stand) ⌝ }
     ensures { λ r. ⌜ Settled (now (m1 .entry)) (now (m2 .entry)) (state (now (first .exit)) (now (second .exit)) (now (line .exit)) (now (words .exit)) r) ⌝ }
 {
     let mut so_far = stand;
     loop {
-        let d = so_far.owed.first();
-        if d == 0 {
+        let n = so_far.count;
+        so_far = turn(m1, m2, first, second, line, words, so_far);
+        if so_far.count == n {
             return so_far;
         }
-        let taken = Stand {
-            count: so_far.count,
-            lines: so_far.lines,
-            owed: so_far.owed.without(d),
-        };
-        so_far = by_next(m1, m2, first, second, line, words, taken, d - 1);
     }
 }
 
@@ -221,7 +263,6 @@ fn begin(
     Stand {
         count: 1,
         lines: a + 2,
-        owed: Row::empty(),
     }
 }
 
@@ -244,11 +285,6 @@ pub fn refine(m1: &[u16], m2: &[u16]) -> Partition
         &mut words,
         begun,
     );
-    let owing = Stand {
-        count: signalled.count,
-        lines: signalled.lines,
-        owed: structure::node_row(signalled.count),
-    };
     let settled = by_nexts(
         m1,
         m2,
@@ -256,7 +292,7 @@ pub fn refine(m1: &[u16], m2: &[u16]) -> Partition
         &mut second,
         &mut line,
         &mut words,
-        owing,
+        signalled,
     );
     Partition {
         first: first,

@@ -20,7 +20,7 @@ fn write_words(out: &mut [u16; 5632], n: u16, op: u16, x: u16, y: u16)
 }
 
 // Signal i.
-fn write_signal(out: &mut [u16; 5632], n: u16, i: u16)
+pub fn write_signal(out: &mut [u16; 5632], n: u16, i: u16)
     requires { ⌜ (n < 938) × (length (now out) ≡ 5632) ⌝ }
     ensures { λ r. ⌜ Adds (now (out .entry)) (now (out .exit)) n (sig i ∷ []) ⌝ }
 {
@@ -36,7 +36,7 @@ pub fn write_not(out: &mut [u16; 5632], n: u16, j: u16)
 }
 
 // Line i or line j.
-fn write_or(out: &mut [u16; 5632], n: u16, i: u16, j: u16)
+pub fn write_or(out: &mut [u16; 5632], n: u16, i: u16, j: u16)
     requires { ⌜ (n < 938) × (length (now out) ≡ 5632) ⌝ }
     ensures { λ r. ⌜ Adds (now (out .entry)) (now (out .exit)) n (alt i j ∷ []) ⌝ }
 {

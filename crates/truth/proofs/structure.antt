@@ -2,3 +2,5 @@
 pub mod NodeLoops
 pub mod ChainRows
 pub mod EdgesBack
+pub mod TargetRows
+pub mod NotedMarks

@@ -4,7 +4,7 @@ use Prim.Native.Nat.{ℕ, zero, suc, _+_, _-_, _*_}
 use mathlib.Core.Bool.{Bool, true, false, _&&_}
 use mathlib.Core.List.{List}
 use lib.ListN.{getD}
-use lib.Dec.{leb}
+use lib.Dec.{leb, eqb}
 use Rattle.sheets.specs.Words.{bit, within, indicator, anyOf}
 use Rattle.sheets.specs.Machine.{edgesOf, target}
 use Rattle.truth.specs.declared.rows.Row.{Row}
@@ -35,6 +35,11 @@ tally (suc n) p = tally n p + indicator (p (suc n))
 unfoldable pub leadsInto : List ℕ → (ℕ → Bool) → ℕ → Bool
 unfolding anyOf edgesOf target
 leadsInto M p s = anyOf (edgesOf M s) (λ x. p (target M x))
+
+-- e is a mark from 1 to 128 of a node from 1 to 128 that some edge of node s leads to
+unfoldable pub marksInto : List ℕ → List ℕ → ℕ → ℕ → Bool
+unfolding within leadsInto
+marksInto M mark s e = within 1 128 e && leadsInto M (λ t. within 1 128 t && eqb (getD mark t 0) e) s
 
 -- r is a number that passes, or 0 where none does
 pub record First (p : ℕ → Bool) (r : ℕ) : Type 0 where

@@ -6,38 +6,62 @@ ghost use Prim.Native.Nat.{ℕ, _+_, _-_, _<_, _≤_};
 ghost use lib.Dec.{T, eqb, leb};
 ghost use Rattle.sheets.specs.Words.{within};
 ghost use Rattle.sheets.specs.Machine as Machine;
-ghost use Rattle.truth.specs.Rows.{rowHas, rowsHas, leadsInto};
+ghost use Rattle.sheets.specs.Records.{recordWord};
+ghost use Rattle.sheets.specs.Gathered.{records, Along};
+ghost use Rattle.truth.specs.Rows.{rowHas, rowsHas, leadsInto, marksInto};
+ghost use Rattle.truth.specs.Targets.{TargetTaken};
 ghost use Rattle.truth.specs.Pairs.{Before};
 use crate::rows::Row;
 use crate::tables::load;
 use crate::tables::store;
+use sheets::along;
 use sheets::machine;
+use sheets::walker;
 use sheets::words::Step;
+
+// One record's target more.
+fn with_target(a: Row, s: Step) -> Row
+    ensures { λ r. ⌜ TargetTaken a s r ⌝ }
+{
+    match s {
+        Step::Record {
+            number: _,
+            first,
+            second: _,
+            next: _,
+        } => a.with(first),
+        Step::End => a,
+    }
+}
+
+// The row with the targets on a chain more, read by one walker.
+fn targets_along(ws: &[u16], base: u32, width: u16, first: u16, mut left: u16, mut a: Row) -> Row
+    ensures { λ r. ⌜ Along TargetTaken (records (recordWord (now (ws .entry)) base width) width left first) a r ⌝ }
+{
+    let mut w = walker::new(ws, base, width, first);
+    while left > 0 {
+        let step = walker::next(&mut w);
+        a = with_target(a, step);
+        left = along::left_after(left, step);
+    }
+    a
+}
+
+// The nodes that the edges of node s lead to.
+pub fn successor_row(m: &[u16], s: u16) -> Row
+    ensures { λ r. ⌜ ((t : ℕ) → rowHas r t ≡ (within 1 128 t && Machine.kripke (now (m .entry)) .edge s t)) ⌝ }
+{
+    let n = machine::nodes(m);
+    let first = machine::node_word(m, s, 2);
+    let left = machine::edges(m);
+    targets_along(m, 3 + 3 * (n as u32), 2, first, left, Row::empty())
+}
 
 // Some edge of node s leads into the row.
 pub fn leads_into(m: &[u16], s: u16, row: Row) -> bool
     ensures { λ r. ⌜ r ≡ leadsInto (now (m .entry)) (rowHas row) s ⌝ }
 {
-    let mut left = machine::edges(m);
-    let mut x = machine::node_word(m, s, 2);
-    while left > 0 {
-        let step = machine::edge(m, x);
-        let Step::Record {
-            number: _,
-            first,
-            second: _,
-            next,
-        } = step
-        else {
-            return false;
-        };
-        if row.has(first) {
-            return true;
-        }
-        x = next;
-        left -= 1;
-    }
-    false
+    successor_row(m, s).meets(row)
 }
 
 // The nodes with an edge into the row.
@@ -101,29 +125,25 @@ pub fn start_row(m: &[u16]) -> Row
     out
 }
 
-// The nodes that the edges of node s lead to.
-pub fn successor_row(m: &[u16], s: u16) -> Row
-    ensures { λ r. ⌜ ((t : ℕ) → rowHas r t ≡ (within 1 128 t && Machine.kripke (now (m .entry)) .edge s t)) ⌝ }
+// The marks that the edges of node s lead to, where `mark` has the mark of each node, 0 for none, and `all` has at least these marks. No
+// mark is read when all are found.
+pub fn marks_into(m: &[u16], mark: &[u16; 256], all: Row, s: u16) -> Row
+    requires { ⌜ ((e : ℕ) → T (marksInto (now m) (now mark) s e) → T (rowHas all e)) ⌝ }
+    ensures { λ r. ⌜ ((e : ℕ) → rowHas r e ≡ marksInto (now (m .entry)) (now (mark .entry)) s e) ⌝ }
 {
-    let mut left = machine::edges(m);
-    let mut x = machine::node_word(m, s, 2);
     let mut out = Row::empty();
-    while left > 0 {
-        let step = machine::edge(m, x);
-        let Step::Record {
-            number: _,
-            first,
-            second: _,
-            next,
-        } = step
-        else {
+    let mut left = successor_row(m, s);
+    loop {
+        if all.difference(out).is_empty() {
             return out;
-        };
-        out = out.with(first);
-        x = next;
-        left -= 1;
+        }
+        let t = left.first();
+        if t == 0 {
+            return out;
+        }
+        out = out.with(mark[t as usize]);
+        left = left.without(t);
     }
-    out
 }
 
 // The successors of each node s, at row s - 1.

@@ -1,7 +1,7 @@
 -- `compare` meets its contract: the first "no" of the table refuses; else the refinement answers, by the start nodes in its blocks.
 use mathlib.Core.Path.{sym, _∙_}
 use native.Mathlib.Omega.{arith}
-use Rattle.comparison.proofs.CompareAnswers.{refused, known, small, fits, equal-answer, unequal-answer}
+use Rattle.comparison.proofs.CompareAnswers.{refused, known, small, fits, equal-answer, listed, unequal-answer}
 use borrow.Author.Needs.{needs}
 use Rattle.comparison.proofs.compare.compare.Statement.{statement}
 use Rattle.comparison.proofs.compare.compare.Tie as tie
@@ -55,24 +55,41 @@ element-copy-out-line c =
     let f = fits (a .m1 .now) (a .m2 .now) (a .space .now) e (r .result) (r .ensures) in
     omega (arith, c .before .one-sided .ensures .high)
 
+write-not-requires : tie.Need-write-not-requires
+write-not-requires c κs =
+    let a = c .before .before .before .before .before .before .before .before .before .before .before .before .before .before .before .args in
+    let e = sym (c .before .before .before .before .before .before .before .before .before .if1 .left) ∙ c .before .before .before .before .before .before .before .before .before .before .before .compare-refusal .ensures .0 in
+    let r = c .before .before .before .before .before .before .before .before .refine in
+    let f = fits (a .m1 .now) (a .m2 .now) (a .space .now) e (r .result) (r .ensures) in
+    (f .2, search needs)
+
+add-put-sheet : tie.Need-add-put-sheet
+add-put-sheet c =
+    let a = c .before .before .before .before .before .before .before .before .before .before .before .before .before .before .before .before .before .before .args in
+    let e = sym (c .before .before .before .before .before .before .before .before .before .before .before .before .if1 .left) ∙ c .before .before .before .before .before .before .before .before .before .before .before .before .before .before .compare-refusal .ensures .0 in
+    let r = c .before .before .before .before .before .before .before .before .before .before .before .refine in
+    let f = fits (a .m1 .now) (a .m2 .now) (a .space .now) e (r .result) (r .ensures) in
+    omega (arith, f .2)
+
 put-sheet-requires : tie.Need-put-sheet-requires
 put-sheet-requires c κs =
-    let a = c .before .before .before .before .before .before .before .before .before .before .before .before .before .before .before .before .args in
-    let e = sym (c .before .before .before .before .before .before .before .before .before .before .if1 .left) ∙ c .before .before .before .before .before .before .before .before .before .before .before .before .compare-refusal .ensures .0 in
-    let r = c .before .before .before .before .before .before .before .before .before .refine in
+    let a = c .before .before .before .before .before .before .before .before .before .before .before .before .before .before .before .before .before .before .args in
+    let e = sym (c .before .before .before .before .before .before .before .before .before .before .before .before .if1 .left) ∙ c .before .before .before .before .before .before .before .before .before .before .before .before .before .before .compare-refusal .ensures .0 in
+    let r = c .before .before .before .before .before .before .before .before .before .before .before .refine in
+    let s = c .before .before .before .before .before .before .before .one-sided in
     let f = fits (a .m1 .now) (a .m2 .now) (a .space .now) e (r .result) (r .ensures) in
-    (f .1, f .2, search needs)
+    (omega (arith, f .1), omega arith, omega (arith, f .2), listed (a .m1 .now) (a .m2 .now) (a .space .now) e (r .result) (r .ensures) (s .result) (s .ensures) (c .before .before .before .before .before .before .if2 .left) _ (search needs) (c .before .before .write-not .ensures))
 
 same-length : tie.Need-same-length
 same-length c = search needs
 
 returns-3 : tie.Need-returns-3
 returns-3 c =
-    let a = c .before .before .before .before .before .before .before .before .before .before .before .before .before .before .before .before .before .before .before .args in
-    let e = sym (c .before .before .before .before .before .before .before .before .before .before .before .before .before .if1 .left) ∙ c .before .before .before .before .before .before .before .before .before .before .before .before .before .before .before .compare-refusal .ensures .0 in
-    let r = c .before .before .before .before .before .before .before .before .before .before .before .before .refine in
-    let s = c .before .before .before .before .before .before .before .before .one-sided in
-    unequal-answer (a .m1 .now) (a .m2 .now) (a .space .now) e (r .result) (r .ensures) (s .result) (s .ensures) (c .before .before .before .before .before .before .before .if2 .left) _ (c .before .before .put-sheet .ensures)
+    let a = c .before .before .before .before .before .before .before .before .before .before .before .before .before .before .before .before .before .before .before .before .before .args in
+    let e = sym (c .before .before .before .before .before .before .before .before .before .before .before .before .before .before .before .if1 .left) ∙ c .before .before .before .before .before .before .before .before .before .before .before .before .before .before .before .before .before .compare-refusal .ensures .0 in
+    let r = c .before .before .before .before .before .before .before .before .before .before .before .before .before .before .refine in
+    let s = c .before .before .before .before .before .before .before .before .before .before .one-sided in
+    unequal-answer (a .m1 .now) (a .m2 .now) (a .space .now) e (r .result) (r .ensures) (s .result) (s .ensures) (c .before .before .before .before .before .before .before .before .before .if2 .left) _ (search needs) (c .before .before .before .before .before .write-not .ensures) _ (c .before .before .put-sheet .ensures)
 
 pub compare-spec : {M : Type 1} → statement M
 compare-spec =
@@ -87,6 +104,8 @@ compare-spec =
     cast-line
     mul-line
     element-copy-out-line
+    write-not-requires
+    add-put-sheet
     put-sheet-requires
     same-length
     returns-3)

@@ -1,7 +1,6 @@
 -- `begin` meets its contract: the first lines are written, and block 0 has all the nodes.
 use borrow.Author.Needs.{needs}
 use native.Mathlib.Omega.{arith}
-use Rattle.truth.specs.Rows.{rowHas}
 use Rattle.truth.proofs.Passed.{signals-sized}
 use Rattle.comparison.proofs.FirstStage.{begun}
 use Rattle.comparison.proofs.refine.begin.Statement.{statement}
@@ -45,12 +44,9 @@ element-write-line c = search needs
 add-t12 : tie.Need-add-t12
 add-t12 = add-line
 
-empty-requires : tie.Need-empty-requires
-empty-requires c κs = search needs
-
 returns : tie.Need-returns
 returns c =
-    let second = c .before in
+    let second = c in
     let row₂ = second .before in
     let nodes₂ = row₂ .before in
     let first = nodes₂ .before .before in
@@ -62,7 +58,7 @@ returns c =
     let a = start .args in
     let pre = start .pre in
     begun (a .m1 .now) (a .m2 .now) (pre .0) (pre .1) (pre .2) (signals .signals .result) (nodes₁ .nodes .result) (nodes₂ .nodes2 .result)
-    (signals .signals .ensures) (nodes₁ .nodes .ensures) (nodes₂ .nodes2 .ensures) (a .first .now) _ (a .second .now) _ (a .line .now) _ _ _ _ _ (rowHas (c .empty .result))
+    (signals .signals .ensures) (nodes₁ .nodes .ensures) (nodes₂ .nodes2 .ensures) (a .first .now) _ (a .second .now) _ (a .line .now) _ _ _ _ _
     (pre .3) (pre .4) (pre .5) (first .store .ensures) (second .store2 .ensures) (row₁ .node-row .ensures) (row₂ .node-row2 .ensures) (lines .write-first .ensures)
 
 pub begin-spec : {M : Type 1} → statement M
@@ -80,5 +76,4 @@ begin-spec =
     add-line
     element-write-line
     add-t12
-    empty-requires
     returns)

@@ -1,0 +1,289 @@
+-- Lines made one: the line that stands for the next one is true at the same nodes.
+use mathlib.Core.Path.{_≡_, refl, sym, subst, ap, _∙_}
+use mathlib.Core.Logic.{_⊎_, inl, inr, _↔_, Iff·rfl, Iff·trans, Iff·symm, Iff·not, by-cases}
+use Prim.Native.Nat.{ℕ, _+_, _≤_, _<_}
+use native.Mathlib.Omega.{arith}
+use native.Mathlib.Decide.{decLe, ℕ-discrete}
+use mathlib.Core.List.{List}
+use lib.ListN.{length, getD, set, length-set}
+use lib.Seq.{getD-set-same, getD-set-other}
+use Rattle.truth.specs.Passed.{nodes, lifted, machineRefusal}
+use Rattle.truth.proofs.Passed.{sum-iff}
+use Rattle.truth.proofs.Decided.{truth-decided}
+use Rattle.comparison.specs.Lines.{Entry, neg, alt, sheet, entry, Refers, Downward}
+use Rattle.comparison.specs.Blocks.{TrueIn}
+use Rattle.comparison.specs.Needed.{Same, Opposite, Always, Stands, AllStand, Opposed, Merged}
+use Rattle.comparison.proofs.Lines.{lines-are}
+use Rattle.comparison.proofs.LinesAccepted.{accepted}
+use Rattle.comparison.proofs.TrueLines.{true-neg, true-alt}
+
+-- ---- truths
+
+pub same-refl : (ls : List Entry) (j : ℕ) → Same ls j ls j
+unfolding Same
+same-refl ls j M ok s lo hi = Iff·rfl
+
+pub same-then : (ls ms ns : List Entry) (i j k : ℕ) → Same ls i ms j → Same ms j ns k → Same ls i ns k
+unfolding Same
+same-then ls ms ns i j k x y M ok s lo hi = Iff·trans (x M ok s lo hi) (y M ok s lo hi)
+
+module _ (a : ℕ) (ls : List Entry) (down : Downward a ls) where
+  -- the truth of a line is decided
+  known : (j : ℕ) → 1 ≤ j → j ≤ length ls → (M : List ℕ) → machineRefusal M ≡ 0 → (s : ℕ) → 1 ≤ s → s ≤ nodes M → Dec (TrueIn M ls j s)
+  known j l h M ok s = truth-decided (lifted 6) M (sheet ls) ok (accepted a ls down (omega arith)) j s l (omega (arith, lines-are ls))
+
+  turned : {X Y : Type 0} → Dec Y → X ↔ (Y → ⊥) → Y ↔ (X → ⊥)
+  turned (yes y) e = (λ z x. e .0 x z, λ f. y)
+  turned (no n) e = (λ y. absurd (n y), λ f. absurd (f (e .1 n)))
+
+  pub opposite-turned : (j k : ℕ) → 1 ≤ k → k ≤ length ls → Opposite ls j k → Opposite ls k j
+  unfolding Opposite
+  opposite-turned j k l h o M ok s lo hi = turned (known k l h M ok s lo hi) (o M ok s lo hi)
+
+  -- opposite to the same line
+  pub both-opposite : (i j k : ℕ) → 1 ≤ k → k ≤ length ls → Opposite ls i j → Opposite ls j k → Same ls i ls k
+  unfolding Opposite Same
+  both-opposite i j k l h x y M ok s lo hi =
+      Iff·trans (x M ok s lo hi) (Iff·symm (turned (known k l h M ok s lo hi) (y M ok s lo hi)))
+
+  module _ (i : ℕ) (l : 1 ≤ i) (h : i ≤ length ls) where
+    -- "not line j"
+    pub opposite-line : (j t : ℕ) → entry ls i ≡ neg j → Same ls j ls t → Opposite ls i t
+    unfolding Opposite Same
+    opposite-line j t e x M ok s lo hi = Iff·trans (true-neg M ok a ls down i l h s lo hi j e) (Iff·not (x M ok s lo hi))
+
+    -- "line j or line k"
+    module _ (j k x y : ℕ) (e : entry ls i ≡ alt j k) (sx : Same ls j ls x) (sy : Same ls k ls y) where
+      either-line : (M : List ℕ) → machineRefusal M ≡ 0 → (s : ℕ) → 1 ≤ s → s ≤ nodes M → TrueIn M ls i s ↔ (TrueIn M ls x s ⊎ TrueIn M ls y s)
+      unfolding Same
+      either-line M ok s lo hi = Iff·trans (true-alt M ok a ls down i l h s lo hi j k e) (sum-iff (sx M ok s lo hi) (sy M ok s lo hi))
+
+      -- one of them is true nowhere
+      module _ (t : ℕ) (always : Always ls t) where
+        pub right-alone : Opposite ls t x → Same ls i ls y
+        unfolding Same Opposite Always
+        right-alone o M ok s lo hi =
+            let f = either-line M ok s lo hi in
+            (λ z. pick (f .0 z), λ z. f .1 (inr z))
+          where
+            pick : TrueIn M ls x s ⊎ TrueIn M ls y s → TrueIn M ls y s
+            pick (inl z) = absurd (o M ok s lo hi .0 (always M ok s lo hi) z)
+            pick (inr z) = z
+
+        pub left-alone : Opposite ls t y → Same ls i ls x
+        unfolding Same Opposite Always
+        left-alone o M ok s lo hi =
+            let f = either-line M ok s lo hi in
+            (λ z. pick (f .0 z), λ z. f .1 (inl z))
+          where
+            pick : TrueIn M ls x s ⊎ TrueIn M ls y s → TrueIn M ls x s
+            pick (inl z) = z
+            pick (inr z) = absurd (o M ok s lo hi .0 (always M ok s lo hi) z)
+
+      -- they are opposite
+      pub either-always : 1 ≤ y → y ≤ length ls → Opposite ls x y → Always ls i
+      unfolding Opposite Always
+      either-always ly hy o M ok s lo hi = either-line M ok s lo hi .1 (pick (known y ly hy M ok s lo hi))
+        where
+          pick : Dec (TrueIn M ls y s) → TrueIn M ls x s ⊎ TrueIn M ls y s
+          pick (yes z) = inr z
+          pick (no n) = inl (o M ok s lo hi .1 n)
+
+-- ---- tables
+
+pub stands-set : (ls : List Entry) (i v : ℕ) (same : List ℕ) → length same ≡ 1024 → i < 938 → AllStand ls i same → 1 ≤ v → v ≤ i + 1 → Same ls (i + 1) ls v
+    → AllStand ls (i + 1) (set same (i + 1) v)
+stands-set ls i v same size small x lv hv e k lo hi = by-cases (decLe k i) above here
+  where
+    above : k ≤ i → Stands ls (set same (i + 1) v) k
+    above h =
+        let q : getD (set same (i + 1) v) k 0 ≡ getD same k 0 = getD-set-other same (i + 1) k v 0 (λ z. omega arith) in
+        let st = x k lo h in
+        record { low = rw q (st .low); high = rw q (st .high); true = rw q (st .true) }
+
+    here : (k ≤ i → ⊥) → Stands ls (set same (i + 1) v) k
+    here h =
+        let z : k ≡ i + 1 = omega arith in
+        let q : getD (set same (i + 1) v) (i + 1) 0 ≡ v = getD-set-same same (i + 1) v 0 (omega arith) in
+        subst (λ (n : ℕ). Stands ls (set same (i + 1) v) n) (sym z) (record { low = rw q lv; high = rw q hv; true = rw q e })
+
+module _ (a : ℕ) (ls : List Entry) (down : Downward a ls) (i : ℕ) (inside : i + 1 ≤ length ls) (small : i < 938)
+    (same other : List ℕ) (top : ℕ) (size : length same ≡ 1024) (sizeOther : length other ≡ 1024) (m : Merged ls i same other top) where
+  opposed-still : (k : ℕ) → 1 ≤ getD other k 0 → Opposed ls (i + 1) other k
+  opposed-still k h = let o = m .opposed k h in let b = o .high in record { low = o .low; high = omega arith; true = o .true }
+
+  -- the line stays as it is
+  pub merged-kept : Merged ls (i + 1) (set same (i + 1) (i + 1)) other top
+  merged-kept = record {
+    stands = stands-set ls i (i + 1) same size small (m .stands) (omega arith) (omega arith) (same-refl ls (i + 1));
+    opposed = opposed-still;
+    always = m .always;
+  }
+
+  -- "not line j"
+  module _ (j t : ℕ) (e : entry ls (i + 1) ≡ neg j) (at : t ≡ getD same j 0) where
+    above-not : (1 ≤ j) × (j ≤ i)
+    unfolding Refers
+    above-not =
+        let r : Refers a (i + 1) (neg j) = rw e at (down .refers (i + 1) (omega arith) inside) in
+        (r .0, omega arith)
+
+    there : Stands ls same j
+    there = m .stands j (above-not .0) (above-not .1)
+
+    there-low : 1 ≤ t
+    there-low = rw at (there .low)
+
+    there-high : t ≤ i
+    there-high = let h = there .high in let b = above-not .1 in omega arith
+
+    opposed-here : Opposite ls (i + 1) t
+    opposed-here = opposite-line a ls down (i + 1) (omega arith) inside j t e (rw at (there .true))
+
+    found : (r : ℕ) → 1 ≤ r → r ≡ getD other t 0 → Merged ls (i + 1) (set same (i + 1) r) other top
+    found r lo q =
+        let h : 1 ≤ getD other t 0 = rw q at lo in
+        let o = m .opposed t h in
+        let b : r ≤ i = rw q (o .high) in
+        record {
+          stands = stands-set ls i r same size small (m .stands) lo (omega arith)
+              (both-opposite a ls down (i + 1) t r lo (omega arith) opposed-here (rw q (o .true)));
+          opposed = opposed-still;
+          always = m .always;
+        }
+
+    paired : (k : ℕ) → 1 ≤ getD (set (set other t (i + 1)) (i + 1) t) k 0 → Opposed ls (i + 1) (set (set other t (i + 1)) (i + 1) t) k
+    paired k h = by-cases (ℕ-discrete k (i + 1)) here (λ n. by-cases (ℕ-discrete k t) (back n) (still n))
+      where
+        table : List ℕ
+        table = set (set other t (i + 1)) (i + 1) t
+
+        here : k ≡ i + 1 → Opposed ls (i + 1) table k
+        here z =
+            let q : getD table (i + 1) 0 ≡ t = getD-set-same (set other t (i + 1)) (i + 1) t 0 (omega (arith, length-set other t (i + 1))) in
+            let b = there-high in
+            let v : t ≤ i + 1 = omega arith in
+            subst (λ (n : ℕ). Opposed ls (i + 1) table n) (sym z) (record { low = omega arith; high = rw q v; true = rw q opposed-here })
+
+        back : (k ≡ i + 1 → ⊥) → k ≡ t → Opposed ls (i + 1) table k
+        back n z =
+            let d : t ≡ i + 1 → ⊥ = λ w. n (z ∙ w) in
+            let b = there-high in
+            let q : getD table t 0 ≡ i + 1 = getD-set-other (set other t (i + 1)) (i + 1) t t 0 d ∙ getD-set-same other t (i + 1) 0 (omega arith) in
+            let v : i + 1 ≤ i + 1 = omega arith in
+            subst (λ (n : ℕ). Opposed ls (i + 1) table n) (sym z)
+            (record { low = there-low; high = rw q v; true = rw q (opposite-turned a ls down (i + 1) t there-low (omega arith) opposed-here) })
+
+        still : (k ≡ i + 1 → ⊥) → (k ≡ t → ⊥) → Opposed ls (i + 1) table k
+        still n d =
+            let q : getD table k 0 ≡ getD other k 0 = getD-set-other (set other t (i + 1)) (i + 1) k t 0 n ∙ getD-set-other other t k (i + 1) 0 d in
+            let o = opposed-still k (rw q at h) in
+            record { low = o .low; high = rw q (o .high); true = rw q (o .true) }
+
+    added : Merged ls (i + 1) (set same (i + 1) (i + 1)) (set (set other t (i + 1)) (i + 1) t) top
+    added = record { stands = merged-kept .stands; opposed = paired; always = m .always }
+
+    pub merged-not : (r : ℕ) (other′ : List ℕ)
+        → ((1 ≤ r) × (r ≡ getD other t 0) × (other′ ≡ other)) ⊎ ((r ≡ i + 1) × (other′ ≡ set (set other t (i + 1)) (i + 1) t))
+        → Merged ls (i + 1) (set same (i + 1) r) other′ top
+    merged-not r other′ (inl x) = rw (x .2) (found r (x .0) (x .1))
+    merged-not r other′ (inr x) = rw (x .0, x .1) added
+
+  -- "line j or line k"
+  module _ (j k x y : ℕ) (e : entry ls (i + 1) ≡ alt j k) (atx : x ≡ getD same j 0) (aty : y ≡ getD same k 0) where
+    above-or : ((1 ≤ j) × (j ≤ i)) × ((1 ≤ k) × (k ≤ i))
+    unfolding Refers
+    above-or =
+        let r : Refers a (i + 1) (alt j k) = rw e at (down .refers (i + 1) (omega arith) inside) in
+        ((r .0 .0, omega arith), (r .1 .0, omega arith))
+
+    left : Stands ls same j
+    left = m .stands j (above-or .0 .0) (above-or .0 .1)
+
+    right : Stands ls same k
+    right = m .stands k (above-or .1 .0) (above-or .1 .1)
+
+    x-low : 1 ≤ x
+    x-low = rw atx (left .low)
+
+    y-low : 1 ≤ y
+    y-low = rw aty (right .low)
+
+    x-high : x ≤ i
+    x-high = let h = left .high in let b = above-or .0 .1 in omega arith
+
+    y-high : y ≤ i
+    y-high = let h = right .high in let b = above-or .1 .1 in omega arith
+
+    x-true : Same ls j ls x
+    x-true = rw atx (left .true)
+
+    y-true : Same ls k ls y
+    y-true = rw aty (right .true)
+
+    stood : (r : ℕ) → ((x ≡ getD other top 0) × (r ≡ y)) ⊎ (((y ≡ getD other top 0) × (r ≡ x)) ⊎ (r ≡ i + 1)) → AllStand ls (i + 1) (set same (i + 1) r)
+    stood r (inl (p, q)) =
+        let h : 1 ≤ getD other top 0 = rw p at x-low in
+        let o = m .opposed top h in
+        let b = y-high in
+        rw q
+        (stands-set ls i y same size small (m .stands) y-low (omega arith)
+        (right-alone a ls down (i + 1) (omega arith) inside j k x y e x-true y-true top (m .always (o .low)) (rw p (o .true))))
+    stood r (inr (inl (p, q))) =
+        let h : 1 ≤ getD other top 0 = rw p at y-low in
+        let o = m .opposed top h in
+        let b = x-high in
+        rw q
+        (stands-set ls i x same size small (m .stands) x-low (omega arith)
+        (left-alone a ls down (i + 1) (omega arith) inside j k x y e x-true y-true top (m .always (o .low)) (rw p (o .true))))
+    stood r (inr (inr q)) = rw q (merged-kept .stands)
+
+    always-now : (u : ℕ) → ((getD other x 0 ≡ y) × (u ≡ i + 1)) ⊎ (u ≡ top) → 1 ≤ u → Always ls u
+    always-now u (inl (p, q)) h =
+        let l : 1 ≤ getD other x 0 = rw p y-low in
+        let o = m .opposed x l in
+        let b = y-high in
+        rw q (either-always a ls down (i + 1) (omega arith) inside j k x y e x-true y-true y-low (omega arith) (rw p at (o .true)))
+    always-now u (inr q) h = rw q (m .always (rw q at h))
+
+    pub merged-or : (r u : ℕ) → ((x ≡ getD other top 0) × (r ≡ y)) ⊎ (((y ≡ getD other top 0) × (r ≡ x)) ⊎ (r ≡ i + 1))
+        → ((getD other x 0 ≡ y) × (u ≡ i + 1)) ⊎ (u ≡ top) → Merged ls (i + 1) (set same (i + 1) r) other u
+    merged-or r u p q = record { stands = stood r p; opposed = opposed-still; always = always-now u q }
+
+-- nothing is done yet
+pub merged-none : (ls : List Entry) (same other : List ℕ) → ((k : ℕ) → getD other k 0 ≡ 0) → Merged ls 0 same other 0
+merged-none ls same other z = record {
+  stands = λ k lo hi. absurd (omega arith);
+  opposed = λ k h. absurd (omega (arith, z k));
+  always = λ h. absurd (omega arith);
+}
+
+-- ---- the next line, i, below n lines
+
+module _ (a : ℕ) (ls : List Entry) (down : Downward a ls) (n i : ℕ) (e : i ≡ n + 1) (inside : i ≤ length ls) (small : i ≤ 938)
+    (same other same′ : List ℕ) (top : ℕ) (size : length same ≡ 1024) (sizeOther : length other ≡ 1024) (m : Merged ls n same other top) where
+  pub next-kept : same′ ≡ set same i i → Merged ls i same′ other top
+  next-kept s = rw (s, e) (merged-kept a ls down n (omega arith) (omega arith) same other top size sizeOther m)
+
+  pub next-not : (j t r : ℕ) (other′ : List ℕ) → entry ls i ≡ neg j → t ≡ getD same j 0
+      → ((1 ≤ r) × (r ≡ getD other t 0) × (other′ ≡ other)) ⊎ ((r ≡ i) × (other′ ≡ set (set other t i) i t))
+      → same′ ≡ set same i r → Merged ls i same′ other′ top
+  next-not j t r other′ h at x s =
+      rw (s, e)
+      (merged-not a ls down n (omega arith) (omega arith) same other top size sizeOther m j t (rw e at h) at r other′
+      (subst (λ (k : ℕ). ((1 ≤ r) × (r ≡ getD other t 0) × (other′ ≡ other)) ⊎ ((r ≡ k) × (other′ ≡ set (set other t k) k t))) e x))
+
+  pub next-or : (j k x y r u : ℕ) → entry ls i ≡ alt j k → x ≡ getD same j 0 → y ≡ getD same k 0
+      → ((x ≡ getD other top 0) × (r ≡ y)) ⊎ (((y ≡ getD other top 0) × (r ≡ x)) ⊎ (r ≡ i))
+      → ((getD other x 0 ≡ y) × (u ≡ i)) ⊎ (u ≡ top) → same′ ≡ set same i r → Merged ls i same′ other u
+  next-or j k x y r u h atx aty p q s =
+      rw (s, e)
+      (merged-or a ls down n (omega arith) (omega arith) same other top size sizeOther m j k x y (rw e at h) atx aty r u
+      (subst (λ (z : ℕ). ((x ≡ getD other top 0) × (r ≡ y)) ⊎ (((y ≡ getD other top 0) × (r ≡ x)) ⊎ (r ≡ z))) e p)
+      (subst (λ (z : ℕ). ((getD other x 0 ≡ y) × (u ≡ z)) ⊎ (u ≡ top)) e q))
+
+-- the table is as long as it was
+pub kept-length : (other other′ : List ℕ) (r i t : ℕ) → length other ≡ 1024
+    → ((1 ≤ r) × (r ≡ getD other t 0) × (other′ ≡ other)) ⊎ ((r ≡ i) × (other′ ≡ set (set other t i) i t)) → length other′ ≡ 1024
+kept-length other other′ r i t size (inl x) = ap length (x .2) ∙ size
+kept-length other other′ r i t size (inr x) = ap length (x .1) ∙ length-set (set other t i) i t ∙ length-set other t i ∙ size

@@ -1,0 +1,211 @@
+-- `turn` meets its contract. The invariant: the blocks have their marks, and where there is no block more, no "some next" of a block splits one before c. The
+-- measure is the blocks that may still come, and then the blocks from c on.
+use borrow.Author.Needs.{needs}
+use mathlib.Core.Path.{_≡_, refl}
+use mathlib.Core.Logic.{_≢_}
+use Prim.Native.Nat.{_+_, _-_, _*_, _≤_}
+use native.Mathlib.Omega.{arith}
+use lib.ListN.{length}
+use Rattle.truth.specs.Rows.{rowHas, rowsHas}
+use Rattle.truth.proofs.tables.TableLaws.{loaded}
+use Rattle.comparison.specs.Tables.{State, state, written, firstOf, secondOf, Room}
+use Rattle.comparison.specs.Signatures.{TellsMark}
+use Rattle.comparison.proofs.StagedSplits.{blocks-fit, lines-fit}
+use Rattle.comparison.proofs.TurningBlocks.{Turning, turning-none, turning-end, turning-on, marks-in, mark-in, turning-room, turning-more}
+use Rattle.comparison.proofs.refine.turn.Statement.{statement}
+use Rattle.comparison.proofs.refine.turn.Tie as tie
+
+abbrev Inv-loop : tie.InvT-loop
+Inv-loop m1 m2 first₀ second₀ line₀ words₀ mark1₀ mark2₀ all₀ so-far₀ c₀ first second line words mark1 mark2 all so-far c =
+    (length mark1 ≡ 256) × (length mark2 ≡ 256)
+    × Turning m1 m2 (state first₀ second₀ line₀ words₀ so-far₀) (state first second line words so-far) mark1 mark2 (rowHas all) c
+
+abbrev μ-loop : tie.MeasureT-loop
+μ-loop m1 m2 first₀ second₀ line₀ words₀ mark1₀ mark2₀ all₀ so-far₀ c₀ first second line words mark1 mark2 all so-far c =
+    256 * (128 - so-far .count) + (128 - c)
+
+-- the tables as they come, and at the loop's head
+abbrev entry : tie.Start Inv-loop μ-loop → State
+entry c = state (c .args .first .now) (c .args .second .now) (c .args .line .now) (c .args .words .now) (c .args .stand)
+
+abbrev present : tie.At-loop Inv-loop μ-loop → State
+present c = state (c .loop .first) (c .loop .second) (c .loop .line) (c .loop .words) (c .loop .so-far)
+
+abbrev start : tie.At-loop Inv-loop μ-loop → tie.Start Inv-loop μ-loop
+start c = c .before .before .before .before .before .before .before .before
+
+fits : (c : tie.Start Inv-loop μ-loop) → c .args .stand .count ≤ 128
+fits c = blocks-fit (c .args .m1 .now) (c .args .m2 .now) 5 (entry c) (c .pre)
+
+few : (c : tie.At-loop Inv-loop μ-loop) → (c .loop .so-far .count ≤ 128) × (c .loop .so-far .lines + 5 ≤ 912)
+few c =
+    let a = start c .args in
+    (blocks-fit (a .m1 .now) (a .m2 .now) 5 (present c) (c .loop .inv .2 .staged), lines-fit (a .m1 .now) (a .m2 .now) 5 (present c) (c .loop .inv .2 .staged))
+
+-- what the splitter tells of the block
+tells : (c : tie.After-splitter Inv-loop μ-loop) → let at = c .before .before .before .before .before .before .before .before .before in let a = start at .args in
+    TellsMark (a .m1 .now) (a .m2 .now) (firstOf (present at)) (secondOf (present at)) (at .loop .mark1) (at .loop .mark2) (at .loop .c) (c .splitter .result)
+tells c =
+    let at = (c .before .before .before .before .before .before .before .before .before) .loop in
+    let l = c .before .before .before .before .before .load in
+    let k = c .before .before .before .load2 in
+    c .splitter .ensures (rowsHas (at .first)) (rowsHas (at .second)) (at .c)
+    (λ s. loaded (at .first) (l .result) (at .c) (at .c) s (l .ensures) refl) (λ s. loaded (at .second) (k .result) (at .c) (at .c) s (k .ensures) refl)
+
+mark : (c : tie.After-splitter Inv-loop μ-loop) → c .splitter .result ≢ 0 → (1 ≤ c .splitter .result) × (c .splitter .result ≤ 128)
+mark c n =
+    let at = c .before .before .before .before .before .before .before .before .before in
+    let s = start at in
+    let a = s .args in
+    let m = mark-in (a .m1 .now) (a .m2 .now) (entry s) (present at) (at .loop .mark1) (at .loop .mark2) (rowHas (at .loop .all)) (at .loop .c) (at .loop .inv .2) (c .before .before .before .before .before .before .before .if1 .taken) (c .splitter .result) (tells c) n in
+    (m .0, m .2)
+
+room : (w : tie.After-write-next Inv-loop μ-loop) → Room (written (present (w .before .before .before .before .before .before .before .before .before .before .before .before .before)) (w .write-next .last .0)) (w .before .before .before .before .before .before .before .before .before .before .before .before .before .loop .c)
+room w =
+    let c = w .before .before .before .before in
+    let at = c .before .before .before .before .before .before .before .before .before in
+    let s = start at in
+    let a = s .args in
+    turning-room (a .m1 .now) (a .m2 .now) (entry s) (present at) (at .loop .mark1) (at .loop .mark2) (rowHas (at .loop .all)) (at .loop .c) (at .loop .inv .2) (c .before .before .before .before .before .before .before .if1 .taken) (c .splitter .result) (tells c) (w .before .before .before .if2 .left) (w .write-next .last .0) (w .write-next .ensures)
+
+marks-requires : tie.Need-marks-requires Inv-loop μ-loop
+marks-requires c κs = omega (arith, fits (c .before .before .before))
+
+marks-requires-2 : tie.Need-marks-requires-2 Inv-loop μ-loop
+marks-requires-2 c κs = omega (arith, fits (c .before .before .before .before .before))
+
+node-row-requires : tie.Need-node-row-requires Inv-loop μ-loop
+node-row-requires c κs = search needs
+
+loop-holds : tie.Need-loop-holds Inv-loop μ-loop
+loop-holds c =
+    let s = c .before .before .before .before .before .before .before in (
+      search needs,
+      search needs,
+      turning-none (s .args .m1 .now) (s .args .m2 .now) (entry s) (s .pre) (c .before .before .before .marks .result) (c .before .marks2 .result) (rowHas (c .node-row .result))
+          (c .before .before .before .marks .ensures) (c .before .marks2 .ensures) (c .node-row .ensures),
+    )
+
+cast-load : tie.Need-cast-load Inv-loop μ-loop
+cast-load c = search needs
+
+load-requires : tie.Need-load-requires Inv-loop μ-loop
+load-requires c κs = omega (arith, few (c .before .before .before), c .before .if1 .taken)
+
+cast-load-2 : tie.Need-cast-load-2 Inv-loop μ-loop
+cast-load-2 c = search needs
+
+load-requires-2 : tie.Need-load-requires-2 Inv-loop μ-loop
+load-requires-2 c κs = omega (arith, few (c .before .before .before .before .before), c .before .before .before .if1 .taken)
+
+splitter-requires : tie.Need-splitter-requires Inv-loop μ-loop
+splitter-requires c κs =
+    let at = c .before .before .before .before .before .before .before .before in
+    let s = start at in
+    let l = c .before .before .before .before .load in
+    let k = c .before .before .load2 in
+    marks-in (s .args .m1 .now) (s .args .m2 .now) (entry s) (present at) (at .loop .mark1) (at .loop .mark2) (rowHas (at .loop .all)) (at .loop .c) (at .loop .inv .2)
+    (c .before .before .before .before .before .before .if1 .taken) (rowHas (l .result)) (rowHas (k .result)) (λ s. loaded (at .loop .first) (l .result) (at .loop .c) (at .loop .c) s (l .ensures) refl)
+    (λ s. loaded (at .loop .second) (k .result) (at .loop .c) (at .loop .c) s (k .ensures) refl)
+
+add-c : tie.Need-add-c Inv-loop μ-loop
+add-c c = omega (arith, few (c .before .before .before .before .before .before .before .before .before .before), c .before .before .before .before .before .before .before .before .if1 .taken)
+
+loop-less : tie.Need-loop-less Inv-loop μ-loop
+loop-less c = omega (arith, few (c .before .before .before .before .before .before .before .before .before .before), c .before .before .before .before .before .before .before .before .if1 .taken)
+
+loop-again : tie.Need-loop-again Inv-loop μ-loop
+loop-again t =
+    let c = t .before in
+    let at = c .before .before .before .before .before .before .before .before .before in
+    let s = start at in
+    let a = s .args in
+    (at .loop .inv .0, at .loop .inv .1, turning-on (a .m1 .now) (a .m2 .now) (entry s) (present at) (at .loop .mark1) (at .loop .mark2) (rowHas (at .loop .all)) (at .loop .c) (at .loop .inv .2) (c .before .before .before .before .before .before .before .if1 .taken) (c .splitter .result) (tells c) (t .if2 .taken))
+
+cast-write-next : tie.Need-cast-write-next Inv-loop μ-loop
+cast-write-next c = search needs
+
+sub-write-next : tie.Need-sub-write-next Inv-loop μ-loop
+sub-write-next c = omega (arith, mark (c .before .before) (c .before .if2 .left))
+
+mul-write-next : tie.Need-mul-write-next Inv-loop μ-loop
+mul-write-next c = omega (arith, mark (c .before .before) (c .before .if2 .left))
+
+element-copy-out-write-next : tie.Need-element-copy-out-write-next Inv-loop μ-loop
+element-copy-out-write-next c = omega (arith, mark (c .before .before) (c .before .if2 .left), c .before .before .before .before .before .before .before .before .before .before .before .loop .inv .2 .staged .sizeLine)
+
+write-next-requires : tie.Need-write-next-requires Inv-loop μ-loop
+write-next-requires c κs =
+    let at = c .before .before .before .before .before .before .before .before .before .before .before .before in
+    (omega (arith, few at), at .loop .inv .2 .staged .holds .size)
+
+sub-by-next : tie.Need-sub-by-next Inv-loop μ-loop
+sub-by-next c = omega (arith, mark (c .before .before .before .before .before .before .before .before) (c .before .before .before .before .before .before .before .if2 .left))
+
+by-next-requires : tie.Need-by-next-requires Inv-loop μ-loop
+by-next-requires c κs = (omega (arith, mark (c .before .before .before .before .before .before .before .before) (c .before .before .before .before .before .before .before .if2 .left)), room (c .before .before .before .before))
+
+sub-mark-block : tie.Need-sub-mark-block Inv-loop μ-loop
+sub-mark-block c = omega (arith, c .before .before .before .before .before .by-next .ensures .count)
+
+mark-block-requires : tie.Need-mark-block-requires Inv-loop μ-loop
+mark-block-requires c κs =
+    let at = c .before .before .before .before .before .before .before .before .before .before .before .before .before .before .before .before .before .before .before .before .before .before .before .loop in
+    (omega (arith, c .before .before .before .before .before .by-next .ensures .count, room (c .before .before .before .before .before .before .before .before .before .before) .count), at .inv .0, at .inv .1)
+
+with-requires : tie.Need-with-requires Inv-loop μ-loop
+with-requires c κs = search needs
+
+loop-less-2 : tie.Need-loop-less-2 Inv-loop μ-loop
+loop-less-2 c = omega (arith, room (c .before .before .before .before .before .before .before .before .before .before .before .before) .count, c .before .before .before .before .before .before .before .by-next .ensures .count)
+
+loop-again-2 : tie.Need-loop-again-2 Inv-loop μ-loop
+loop-again-2 l =
+    let w = l .before .before .before .before .before .before .before .before .before .before .before .before in
+    let c = w .before .before .before .before in
+    let at = c .before .before .before .before .before .before .before .before .before in
+    let s = start at in
+    let a = s .args in
+    let m = l .before .mark-block .ensures in (
+      m .0 .size,
+      m .1 .size,
+      turning-more (a .m1 .now) (a .m2 .now) (entry s) (present at) (at .loop .mark1) (at .loop .mark2) (rowHas (at .loop .all)) (at .loop .c) (at .loop .inv .2) (c .before .before .before .before .before .before .before .if1 .taken) (c .splitter .result) (tells c) (w .before .before .before .if2 .left) (w .write-next .last .0) (w .write-next .ensures) _ _ _ (rowHas (l .with .result)) (l .before .before .before .before .before .before .before .by-next .ensures) (m .0) (m .1) (l .with .ensures),
+    )
+
+returns : tie.Need-returns Inv-loop μ-loop
+returns c =
+    let at = c .before .before in
+    let s = start at in
+    turning-end (s .args .m1 .now) (s .args .m2 .now) (entry s) (present at) (at .loop .mark1) (at .loop .mark2) (rowHas (at .loop .all)) (at .loop .c) (at .loop .inv .2) (c .if1 .left)
+
+pub turn-spec : {M : Type 1} → statement M
+turn-spec =
+    tie.close
+    (tie.spec
+    Inv-loop
+    μ-loop
+    marks-requires
+    marks-requires-2
+    node-row-requires
+    loop-holds
+    cast-load
+    load-requires
+    cast-load-2
+    load-requires-2
+    splitter-requires
+    add-c
+    loop-less
+    loop-again
+    cast-write-next
+    sub-write-next
+    mul-write-next
+    element-copy-out-write-next
+    write-next-requires
+    sub-by-next
+    by-next-requires
+    sub-mark-block
+    mark-block-requires
+    with-requires
+    loop-less-2
+    loop-again-2
+    returns)
