@@ -10,8 +10,9 @@ use lib.Seq.{getD-set-same}
 use lib.Dec.{T, leb, leb→le}
 use Rattle.truth.specs.Passed.{nodes, signals, machineRefusal, within}
 use Rattle.truth.specs.Rows.{held, rowsHas}
-use Rattle.truth.proofs.Passed.{and-left, passed, within-in, signals-sized}
+use Rattle.truth.proofs.Passed.{and-left, passed, within-in, nodes-sized, signals-sized}
 use Rattle.truth.proofs.tables.TableLaws.{stored-length, stored-here}
+use Rattle.comparison.specs.Bounded.{Bounded}
 use Rattle.comparison.specs.Lines.{firstLines, Holds}
 use Rattle.comparison.specs.Tables.{OfNodes}
 use Rattle.comparison.specs.Stages.{Staged}
@@ -35,21 +36,23 @@ module _ (M before after : List ℕ) (low high n : ℕ) (size : length before �
       let t′ : T (rowsHas after 0 s) = rw e at t in
       leb→le s (nodes M) (and-left (leb s (nodes M)) (within 1 128 s) (subst T (first-row s) t′))
 
-pub begun : (M₁ M₂ : List ℕ) → machineRefusal M₁ ≡ 0 → machineRefusal M₂ ≡ 0 → nodes M₁ + nodes M₂ ≤ 128
+pub begun : (M₁ M₂ : List ℕ) → machineRefusal M₁ ≡ 0 → machineRefusal M₂ ≡ 0 → Bounded M₁ M₂
     → (a n₁ n₂ : ℕ) → a ≡ signals M₁ → n₁ ≡ nodes M₁ → n₂ ≡ nodes M₂
     → (first₀ first second₀ second line words : List ℕ) (l₁ h₁ l₂ h₂ : ℕ) → length first₀ ≡ 512 → length second₀ ≡ 512 → length line ≡ 256
     → first ≡ set (set first₀ 0 l₁) 1 h₁ → second ≡ set (set second₀ 0 l₂) 1 h₂
     → ((s : ℕ) → held l₁ h₁ s ≡ (leb s n₁ && within 1 128 s)) → ((s : ℕ) → held l₂ h₂ s ≡ (leb s n₂ && within 1 128 s)) → Holds words (firstLines a)
     → Staged M₁ M₂ 5 (record { first = first; second = second; line = set line 0 (a + 2); words = words; count = 1; lines = a + 2 })
 unfolding OfNodes
-begun M₁ M₂ ok₁ ok₂ sum a n₁ n₂ ea e₁ e₂ first₀ first second₀ second line words l₁ h₁ l₂ h₂ z₁ z₂ z s₁ s₂ r₁ r₂ holds =
+begun M₁ M₂ ok₁ ok₂ bounded a n₁ n₂ ea e₁ e₂ first₀ first second₀ second line words l₁ h₁ l₂ h₂ z₁ z₂ z s₁ s₂ r₁ r₂ holds =
     let some = signals-sized M₁ ok₁ in
+    let few₁ = nodes-sized M₁ ok₁ in
+    let few₂ = nodes-sized M₂ ok₂ in
     let at : getD (set line 0 (a + 2)) 0 0 ≡ signals M₁ + 2 = getD-set-same line 0 (a + 2) 0 (omega arith) ∙ ap (λ (k : ℕ). k + 2) ea in
     let length-first = first-length (signals M₁) (some .0) (some .1) in
     record {
       accepted₁ = ok₁;
       accepted₂ = ok₂;
-      sum = sum;
+      bounded = bounded;
       size₁ = first-size M₁ first₀ first l₁ h₁ n₁ z₁ s₁ r₁ e₁;
       size₂ = first-size M₂ second₀ second l₂ h₂ n₂ z₂ s₂ r₂ e₂;
       sizeLine = simp length-set z;

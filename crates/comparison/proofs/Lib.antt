@@ -9,6 +9,7 @@ pub mod CountedBlocks
 pub mod Invariance
 pub mod Partition
 pub mod Refinement
+pub mod FewBlocks
 pub mod FirstLines
 pub mod TellingApart
 pub mod WrittenSheet

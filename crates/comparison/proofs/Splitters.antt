@@ -97,7 +97,7 @@ module _ (M₁ M₂ : List ℕ) (st : State) (w : Staged M₁ M₂ 5 st) (l : �
       record {
         accepted₁ = w .accepted₁;
         accepted₂ = w .accepted₂;
-        sum = w .sum;
+        bounded = w .bounded;
         size₁ = w .size₁;
         size₂ = w .size₂;
         sizeLine = w .sizeLine;

@@ -13,15 +13,14 @@ use Rattle.comparison.specs.Tables.{State, firstOf, secondOf, lineOf, Ro
 use Rattle.comparison.specs.Stages.{Staged, Ready}
 use Rattle.comparison.proofs.AddedLines.{entry-above}
 use Rattle.comparison.proofs.ExactLines.{exact-kept, split-down, split-length}
-use Rattle.comparison.proofs.Refinement.{blocks-few, met, splits}
+use Rattle.comparison.proofs.Refinement.{met, splits}
+use Rattle.comparison.proofs.FewBlocks.{blocks-bounded}
 use Rattle.comparison.proofs.Parts.{partMembers, partLines, parted, lined}
 use Rattle.comparison.proofs.FinerBlocks.{finer-split}
 
 pub blocks-fit : (M₁ M₂ : List ℕ) (spare : ℕ) (st : State) → Staged M₁ M₂ spare st → st .count ≤ 128
 blocks-fit M₁ M₂ spare st s =
-    let few = blocks-few (signals M₁) M₁ M₂ (s .accepted₁) (s .accepted₂) (s .ls) (st .count) (lineOf st) (firstOf st) (secondOf st) (s .refinement) in
-    let sum = s .sum in
-    omega arith
+    blocks-bounded M₁ M₂ (s .accepted₁) (s .accepted₂) (s .bounded) (s .ls) (st .count) (lineOf st) (firstOf st) (secondOf st) (s .refinement)
 
 pub lines-fit : (M₁ M₂ : List ℕ) (spare : ℕ) (st : State) → Staged M₁ M₂ spare st → st .lines + spare ≤ 912
 lines-fit M₁ M₂ spare st s =
@@ -37,7 +36,7 @@ staged-less M₁ M₂ n m st h s =
     record {
       accepted₁ = s .accepted₁;
       accepted₂ = s .accepted₂;
-      sum = s .sum;
+      bounded = s .bounded;
       size₁ = s .size₁;
       size₂ = s .size₂;
       sizeLine = s .sizeLine;
@@ -75,8 +74,7 @@ module _ (M₁ M₂ : List ℕ) (spare : ℕ) (st : State) (p : ℕ) (x₁ x₂ 
       let m₂′ = partMembers (st .count) c x₂ (secondOf st) in
       let line′ = partLines (st .count) c n (lineOf st) in
       let r = split-refinement line′ m₁′ m₂′ (lined (st .count) c n h (lineOf st)) (parted (st .count) c h x₁ (firstOf st)) (parted (st .count) c h x₂ (secondOf st)) in
-      let few = blocks-few (signals M₁) M₁ M₂ (s .accepted₁) (s .accepted₂) (s .ls ++ split n (lineOf st c) p) (suc (st .count)) line′ m₁′ m₂′ r in
-      let sum = s .sum in
+      let few = blocks-bounded M₁ M₂ (s .accepted₁) (s .accepted₂) (s .bounded) (s .ls ++ split n (lineOf st c) p) (suc (st .count)) line′ m₁′ m₂′ r in
       let short = s .short in
       let signals-few = s .refinement .down .few in
       record {
@@ -121,7 +119,7 @@ module _ (M₁ M₂ : List ℕ) (spare : ℕ) (st : State) (p : ℕ) (x₁ x₂ 
         record {
           accepted₁ = s .accepted₁;
           accepted₂ = s .accepted₂;
-          sum = s .sum;
+          bounded = s .bounded;
           size₁ = b .first .size;
           size₂ = b .second .size;
           sizeLine = b .line .size;

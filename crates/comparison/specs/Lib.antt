@@ -4,6 +4,7 @@ pub mod Lines
 pub mod Blocks
 pub mod Refinement
 pub mod Tables
+pub mod Bounded
 pub mod Stages
 pub mod Signatures
 pub mod Answers

@@ -8,6 +8,7 @@ use lib.Dec.{T}
 use Rattle.truth.specs.Passed.{kripke, nodes, signals, machineRefusal}
 use Rattle.truth.specs.Rows.{rowsHas}
 use Rattle.truth.proofs.Passed.{intoSet}
+use Rattle.comparison.specs.Bounded.{Bounded}
 use Rattle.comparison.specs.Lines.{Entry, sig, lineWords, entry, Holds}
 use Rattle.comparison.specs.Blocks.{Exact, Members, Unsplit, Split}
 use Rattle.comparison.specs.Refinement.{Refinement}
@@ -19,7 +20,7 @@ use Rattle.comparison.specs.declared.refine.Partition.{Partition}
 pub record Staged (M₁ M₂ : List ℕ) (spare : ℕ) (st : State) : Type 0 where
   pub accepted₁ : machineRefusal M₁ ≡ 0
   pub accepted₂ : machineRefusal M₂ ≡ 0
-  pub sum : nodes M₁ + nodes M₂ ≤ 128
+  pub bounded : Bounded M₁ M₂
   pub size₁ : length (st .first) ≡ 512
   pub size₂ : length (st .second) ≡ 512
   pub sizeLine : length (st .line) ≡ 256

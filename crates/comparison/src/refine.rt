@@ -6,6 +6,7 @@ ghost use lib.ListN.{length};
 ghost use Rattle.truth.specs.Passed as Passed;
 ghost use Rattle.truth.specs.Rows.{rowHas, rowsHas};
 ghost use Rattle.truth.proofs.Passed.{intoSet};
+ghost use Rattle.comparison.specs.Bounded.{Bounded};
 ghost use Rattle.comparison.specs.Tables.{state, written, Room, SplitBlock};
 ghost use Rattle.comparison.specs.Stages.{Staged, NextSplit, Starts, Divisible, Divided, Signalled, Settled, Partitioned};
 ghost use Rattle.comparison.specs.Signatures.{MarkedRow, Turned};
@@ -250,7 +251,7 @@ fn begin(
     words: &mut [u16; 5632],
 ) -> Stand
     requires { ⌜
-        (Passed.machineRefusal (now m1) ≡ 0) × (Passed.machineRefusal (now m2) ≡ 0) × (Passed.nodes (now m1) + Passed.nodes (now m2) ≤ 128)
+        (Passed.machineRefusal (now m1) ≡ 0) × (Passed.machineRefusal (now m2) ≡ 0) × Bounded (now m1) (now m2)
         × (length (now first) ≡ 512) × (length (now second) ≡ 512) × (length (now line) ≡ 256) × (length (now words) ≡ 5632)
         ⌝ }
     ensures { λ r. ⌜ Staged (now (m1 .entry)) (now (m2 .entry)) 5 (state (now (first .exit)) (now (second .exit)) (now (line .exit)) (now (words .exit)) r) ⌝ }
@@ -266,9 +267,10 @@ fn begin(
     }
 }
 
-// The nodes of two accepted machines in blocks that no signal and no "some next of a block" splits, each with its written line.
+// The nodes of two accepted machines in blocks that no signal and no "some next of a block" splits, each with its written line. One
+// machine may be taken twice, whatever its number of nodes.
 pub fn refine(m1: &[u16], m2: &[u16]) -> Partition
-    requires { ⌜ (Passed.machineRefusal (now m1) ≡ 0) × (Passed.machineRefusal (now m2) ≡ 0) × (Passed.nodes (now m1) + Passed.nodes (now m2) ≤ 128) ⌝ }
+    requires { ⌜ (Passed.machineRefusal (now m1) ≡ 0) × (Passed.machineRefusal (now m2) ≡ 0) × Bounded (now m1) (now m2) ⌝ }
     ensures { λ r. ⌜ Partitioned (now (m1 .entry)) (now (m2 .entry)) r ⌝ }
 {
     let mut first = [0u64; 512];

@@ -1,6 +1,8 @@
 -- `compare` meets its contract: the first "no" of the table refuses; else the refinement answers, by the start nodes in its blocks.
 use mathlib.Core.Path.{sym, _∙_}
+use mathlib.Core.Logic.{inl}
 use native.Mathlib.Omega.{arith}
+use Rattle.comparison.specs.Bounded.{Bounded}
 use Rattle.comparison.proofs.CompareAnswers.{refused, known, small, fits, equal-answer, listed, unequal-answer}
 use borrow.Author.Needs.{needs}
 use Rattle.comparison.proofs.compare.compare.Statement.{statement}
@@ -16,11 +18,12 @@ returns c =
     refused (a .m1 .now) (a .m2 .now) (a .space .now) _ _ (r .ensures .0) (r .ensures .1) (c .if1 .taken)
 
 refine-requires : tie.Need-refine-requires
+unfolding Bounded
 refine-requires c κs =
     let a = c .before .before .before .before .before .before .args in
     let e = sym (c .if1 .left) ∙ c .before .before .compare-refusal .ensures .0 in
     let k = known (a .m1 .now) (a .m2 .now) (a .space .now) e in
-    (k .first, k .second, k .few)
+    (k .first, k .second, inl (k .few))
 
 one-sided-requires : tie.Need-one-sided-requires
 one-sided-requires c κs =
