@@ -107,7 +107,7 @@ module _ (M₁ M₂ before : List ℕ) where
                 refusal = none-refused M₁ M₂ (length before) e;
                 leaves = (
                   sheet (wrote .0),
-                  written M₁ M₂ (k .first) (k .few) (wrote .0) (wrote .1 .down) (wrote .1 .some) (omega arith)
+                  written M₁ M₂ (k .first) (k .second) (k .same) (k .few) (wrote .0) (wrote .1 .down) (wrote .1 .some) (omega arith)
                       (told-shorter M₁ M₂ (k .first) (k .second) (signals M₁) told (wrote .0) (wrote .1)
                       (unequal (signals M₁) M₁ M₂ (k .first) (k .second) (r .ls) (p .count) (λ c. getD (p .line) c 0) (rowsHas (p .first)) (rowsHas (p .second)) (r .refinement) (c - 1) block (s .found (omega arith))))
                       before after (wrote .2),

@@ -33,7 +33,7 @@ module _ (M₁ M₂ : List ℕ) where
     unfolding refusalOf Leaves
     by-answer (Refused q i) e l = let z = ap (λ (r : Refusal). r .number) e ∙ accepted in absurd (omega (arith, l .0))
     by-answer Equal e l = by-equal (l .0)
-    by-answer Unequal e l = let w = l .1 in by-unequal (never-both M₁ M₂ (l .0) (w .accepted) (w .over) (w .apart))
+    by-answer Unequal e l = let w = l .1 in by-unequal (never-both M₁ M₂ (l .0) (w .accepted) (w .over₁) (w .apart))
 
     pub decides : (answer : Answer) → CompareAnswer M₁ M₂ before after answer → Decides answer
     decides answer c = by-answer answer (c .refusal) (c .leaves)

@@ -6,8 +6,9 @@ use mathlib.Core.List.{List, [], _∷_, _++_}
 use mathlib.Core.Bool.{Bool, true, false}
 use lib.ListN.{length, take, drop}
 use lib.Dec.{T, leb, eqb}
-use Rattle.truth.specs.Passed.{firstNo, Question, ask, nodes, signals, machineQuestions, machineRefusal, lent, lifted, ruleRefusal, overSignals, lines}
+use Rattle.truth.specs.Passed.{none, firstNo, Question, ask, nodes, signals, machineQuestions, machineRefusal, lent, lifted, ruleRefusal, overSignals, lines}
 use Rattle.truth.specs.Truth.{Keeps}
+use Rattle.truth.specs.Labelling.{labelQuestions}
 
 -- a rule of the logic over a signals, of whatever length and automaton size: its line records have L words
 pub record Rule (a L : ℕ) (R : List ℕ) : Type 0 where
@@ -43,11 +44,15 @@ compareQuestions M₁ M₂ space =
     ask 20 0 (eqb (signals M₁) (signals M₂)) ∷ ask 21 0 (leb (nodes M₁ + nodes M₂) 128)
     ∷ ask 22 0 (leb (33 + 6 * (signals M₁ + 7 * (nodes M₁ + nodes M₂))) space) ∷ []
 
--- a rule sheet R stands at the head of the space, and the words past it are as before
+-- a rule sheet R stands at the head of the space, and the words past it are as before; it is over the signals of both machines, and
+-- labelling accepts it with each of them, in any space that is large enough
 pub record Written (M₁ M₂ R before after : List ℕ) : Type 0 where
   pub stands : after ≡ R ++ drop (length R) before
   pub head : take 33 R ≡ 1 ∷ 4 ∷ 5 ∷ lines R ∷ 1 ∷ 1 ∷ nextWords
   pub short : lines R ≤ signals M₁ + 7 * (nodes M₁ + nodes M₂)
   pub accepted : ruleRefusal lent R ≡ 0
-  pub over : T (overSignals lent (signals M₁) R)
+  pub over₁ : T (overSignals lent (signals M₁) R)
+  pub over₂ : T (overSignals lent (signals M₂) R)
+  pub labels₁ : (space : ℕ) → 2 * lines R ≤ space → firstNo (labelQuestions M₁ R space) ≡ none
+  pub labels₂ : (space : ℕ) → 2 * lines R ≤ space → firstNo (labelQuestions M₂ R space) ≡ none
   pub apart : ToldApart M₁ M₂ R

@@ -1,33 +1,20 @@
 -- A rule that comparison wrote at the head of the space: where it ends, and that labelling accepts it with both machines.
-use mathlib.Core.Path.{_≡_, refl, sym, ap, _∙_}
+use mathlib.Core.Path.{_≡_, sym, ap, _∙_}
 use Prim.Native.Nat.{ℕ, _+_, _*_, _≤_}
 use native.Mathlib.Omega.{arith}
 use mathlib.Core.List.{List, _∷_}
 use lib.ListN.{length, getD, take, drop, length-append, List·getD-append}
 use lib.Seq.{take-at, getD-take}
-use lib.Dec.{T, eqb→eq}
-use borrow.Author.Tests.{le-leb}
+use lib.Dec.{eqb→eq}
 use Rattle.sheets.specs.Words.{word}
 use Rattle.sheets.specs.Questions.{Refusal, none as noRefusal, firstNo}
-use Rattle.sheets.specs.Machine.{signals, machineRefusal}
-use Rattle.sheets.specs.Rules.{lent, automata, states, transitions, lines, ruleRefusal, overSignals, q8}
-use Rattle.sheets.proofs.Tests.{passed}
-use Rattle.sheets.proofs.Questions.{rule-answers, yes, none}
+use Rattle.sheets.specs.Rules.{lent, automata, states, transitions, lines, q8}
+use Rattle.sheets.proofs.Questions.{rule-answers}
 use Rattle.sheets.proofs.AcceptedMachine.{signals-sized}
-use Rattle.truth.specs.Labelling.{labelQuestions}
-use Rattle.truth.proofs.labelling.LabelTable.{spaceQuestion, by-last}
 use Rattle.comparison.specs.Comparison.{Written, nextWords}
 use Rattle.comparison.specs.Answers.{comparisonQuestions}
 use Rattle.comparison.proofs.CompareTable.{Compared, compared}
 use Rattle.explain.specs.Verdicts.{Labelable, Telling}
-
--- of an accepted rule with few enough lines
-labels : (M R : List ℕ) → machineRefusal M ≡ 0 → ruleRefusal lent R ≡ 0 → T (overSignals lent (signals M) R) → lines R ≤ 1024
-    → Labelable M R
-unfolding Labelable labelQuestions
-labels M R m r over most =
-    let all = passed (overSignals lent (signals M) R) over in
-    sym (by-last M R (spaceQuestion R 2048) 0 (sym m) refl 0 (sym r) refl all 0 (yes (le-leb (2 * lines R) 2048 (omega arith)) none))
 
 module _ (M₁ M₂ R before after : List ℕ) (w : Written M₁ M₂ R before after) where
   -- ---- where it ends
@@ -70,8 +57,9 @@ module _ (M₁ M₂ R before after : List ℕ) (w : Written M₁ M₂ R before a
         omega (arith, w .short, k .few, signals-sized M₁ (k .first) .1)
 
     pub telling : Telling M₁ M₂ R
+    unfolding Labelable noRefusal
     telling = record {
-      first = labels M₁ R (known .first) (w .accepted) (w .over) few-lines;
-      second = labels M₂ R (known .second) (w .accepted) (rw (← known .same) (w .over)) few-lines;
+      first = ap (λ (r : Refusal). r .number) (w .labels₁ 2048 (omega (arith, few-lines)));
+      second = ap (λ (r : Refusal). r .number) (w .labels₂ 2048 (omega (arith, few-lines)));
       apart = w .apart;
     }

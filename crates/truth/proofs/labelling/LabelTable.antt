@@ -6,12 +6,14 @@ use Prim.Native.Nat.{ℕ, _*_, _≤_}
 use native.Mathlib.Omega.{arith}
 use mathlib.Core.List.{List, [], _∷_, _++_}
 use mathlib.Core.Bool.{true, false}
-use lib.Dec.{leb, leb→le}
+use borrow.Author.Tests.{le-leb}
+use lib.Dec.{T, leb, leb→le}
 use Rattle.sheets.specs.Words.{indicator}
 use Rattle.sheets.specs.Questions.{Refusal, none as noRefusal, Question, ask, firstNo}
 use Rattle.sheets.specs.Machine.{signals, machineQuestions, machineRefusal}
 use Rattle.sheets.specs.Rules.{lent, lines, overSignals, recordQuestions, automataQuestions, ruleQuestions, ruleRefusal}
-use Rattle.sheets.proofs.Questions.{AllYes, all-yes, Finds, found, yes, no, first-table, later-table}
+use Rattle.sheets.proofs.Tests.{passed}
+use Rattle.sheets.proofs.Questions.{AllYes, all-yes, Finds, found, none, yes, no, first-table, later-table}
 use Rattle.truth.specs.Labelling.{labelQuestions, sheetOf}
 
 -- ---- any table
@@ -159,3 +161,12 @@ module _ (M R : List ℕ) (space : ℕ) where
     pub space-enough : 2 * lines R ≤ space
     unfolding labelQuestions
     space-enough = leb→le (2 * lines R) space (last-whole M R (spaceQuestion R space) e .0)
+
+  -- accepted sheets, the rule over the machine's signals, and space enough: labelling refuses nothing
+  pub label-accepts : machineRefusal M ≡ 0 → ruleRefusal lent R ≡ 0 → T (overSignals lent (signals M) R) → 2 * lines R ≤ space
+      → firstNo (labelQuestions M R space) ≡ noRefusal
+  unfolding labelQuestions
+  label-accepts machine rules over enough =
+      sym (none-refused
+      (by-last M R (spaceQuestion R space) 0 (sym machine) refl 0 (sym rules) refl (passed (overSignals lent (signals M) R) over) 0
+      (yes (le-leb (2 * lines R) space enough) none)))
