@@ -1,87 +1,39 @@
--- One step of each computation along an automaton's chain: `member`, `getD`, `allOf`, `howMany`, and the question that is put to the
--- transitions out of a state.
-use mathlib.Core.Path.{_≡_, refl, sym, _∙_}
+-- An automaton's states by position, as questions 12 to 14 go over them: the list that was read is the chain, and what is asked of the
+-- transitions out of each state.
+use mathlib.Core.Path.{_≡_, refl, sym, _∙_, ap}
+use mathlib.Core.Logic.{⊎-elim}
 use Prim.Native.Nat.{ℕ, zero, suc, _+_, _-_, _^_, _≤_, _<_}
 use native.Mathlib.Omega.{arith}
-use mathlib.Core.List.{List, _∷_, map}
-use mathlib.Core.Bool.{Bool, true, false, and-false}
-use borrow.Author.Tests.{eq-eqb, ne-eqb, le-leb, lt-leb}
-use lib.ListN.{length, getD}
-use lib.Dec.{T, eqb, ltb, leb→le}
-use Rattle.sheets.specs.Words.{bit, within, allOf, anyOf, member, indicator, howMany}
-use Rattle.sheets.specs.Rules.{most, fits, lent, automata, states, variables, initial, statesOf, transitionsOf, transitionTarget, mask, distinct, transitionsFit, automatonFits, q9}
+use mathlib.Core.List.{List}
+use mathlib.Core.Bool.{Bool, false, not, _&&_}
+use borrow.Author.Tests.{le-leb, lt-leb, ne-eqb}
+use lib.ListN.{length, getD, take}
+use lib.Seq.{length-take-le, getD-take, ext-getD}
+use lib.Dec.{T, leb, eqb, ltb, leb→le}
+use Rattle.sheets.specs.Words.{bit, within, allOf, howMany}
+use Rattle.sheets.specs.Rules.{most, fits, lent, automata, states, automatonWord, variables, initial, statesOf, transitionsOf, mask, transitionsFit, total, automatonFits, q9}
+use Rattle.sheets.specs.Gathered.{Listed}
+use Rattle.sheets.specs.Transitions.{Leaves}
+use Rattle.sheets.specs.declared.along.Numbers.{Numbers}
+use Rattle.sheets.specs.declared.along.Leaving.{Leaving}
 use Rattle.sheets.proofs.Tests.{and-left}
-use Rattle.sheets.proofs.Search.{each-at}
-
-module _ (t n : ℕ) (ys : List ℕ) where
-  pub member-here : n ≡ t → member t (n ∷ ys) ≡ true
-  unfolding member anyOf
-  member-here e = rw (eq-eqb t n (sym e))
-
-  pub member-next : (n ≡ t → ⊥) → member t (n ∷ ys) ≡ member t ys
-  unfolding member anyOf
-  member-next h = rw (ne-eqb t n (λ e. h (sym e)))
-
-module _ (n : ℕ) (ys : List ℕ) where
-  pub get-here : (k : ℕ) → k ≡ 0 → getD (n ∷ ys) k 0 ≡ n
-  get-here zero e = refl
-  get-here (suc k) e = absurd (omega arith)
-
-  pub get-next : (k : ℕ) → (k ≡ 0 → ⊥) → getD (n ∷ ys) k 0 ≡ getD ys (k - 1) 0
-  get-next zero h = absurd (h refl)
-  get-next (suc k) h = let e : suc k - 1 ≡ k = omega arith in rw e
-
-module _ (p : ℕ → Bool) (n : ℕ) (ys : List ℕ) where
-  pub all-broken : {b : Bool} → b ≡ p n → b ≡ false → allOf (n ∷ ys) p ≡ false
-  unfolding allOf
-  all-broken e h = rw (sym e ∙ h)
-
-  pub all-next : {b : Bool} → b ≡ p n → b ≡ true → allOf (n ∷ ys) p ≡ allOf ys p
-  unfolding allOf
-  all-next e h = rw (sym e ∙ h)
-
-  -- k are counted before
-  pub count-one : {whole : ℕ} (k : ℕ) → whole ≡ k + howMany (n ∷ ys) p → p n ≡ true → whole ≡ (k + 1) + howMany ys p
-  unfolding howMany indicator
-  count-one k c e = omega (arith, rw e at c)
-
-  pub count-none : {whole : ℕ} (k : ℕ) → whole ≡ k + howMany (n ∷ ys) p → p n ≡ false → whole ≡ k + howMany ys p
-  unfolding howMany indicator
-  count-none k c e = omega (arith, rw e at c)
-
--- ---- the transitions out of a state: a condition that the first of them breaks, and where it meets all three
-
-module _ (R : List ℕ) (v : ℕ) (all : List ℕ) (n : ℕ) (ys : List ℕ) where
-  pub fit-wide : {b : ℕ} {m : Bool} → b ≡ mask R n → m ≡ ltb b (2 ^ (2 ^ v)) → m ≡ false → transitionsFit R v all (n ∷ ys) ≡ false
-  unfolding transitionsFit allOf
-  fit-wide e m h = rw (rw e at (sym m ∙ h))
-
-  pub fit-outside : {a : ℕ} {o : Bool} → a ≡ transitionTarget R n → o ≡ member a all → o ≡ false → transitionsFit R v all (n ∷ ys) ≡ false
-  unfolding transitionsFit allOf
-  fit-outside e o h = rw (rw e at (sym o ∙ h), and-false (ltb (mask R n) (2 ^ (2 ^ v))))
-
-  pub fit-twice : {a : ℕ} {t : Bool} → a ≡ transitionTarget R n → t ≡ member a (map (transitionTarget R) ys) → t ≡ true
-      → transitionsFit R v all (n ∷ ys) ≡ false
-  unfolding transitionsFit distinct
-  fit-twice e t h = rw (rw e at (sym t ∙ h), and-false)
-
-  pub fit-next : {a b : ℕ} {m o t : Bool} → a ≡ transitionTarget R n → b ≡ mask R n → m ≡ ltb b (2 ^ (2 ^ v)) → m ≡ true
-      → o ≡ member a all → o ≡ true → t ≡ member a (map (transitionTarget R) ys) → t ≡ false
-      → transitionsFit R v all (n ∷ ys) ≡ transitionsFit R v all ys
-  unfolding transitionsFit allOf distinct
-  fit-next e d m h o k t l = rw (rw d at (sym m ∙ h), rw e at (sym o ∙ k), rw e at (sym t ∙ l))
+use Rattle.sheets.proofs.Search.{le-or-gt, each-at}
+use Rattle.sheets.proofs.ListedChains.{past-end}
 
 -- ---- valuations: question 13 numbers them from 1, a mask's bits from 0
 
 abbrev pub served : List ℕ → List ℕ → ℕ → Bool
 served R ys w = eqb (howMany ys (λ y. bit (mask R y) (w - 1))) 1
 
-module _ (R : List ℕ) (ys : List ℕ) (w n : ℕ) (counted : n ≡ howMany ys (λ y. bit (mask R y) w)) where
-  pub served-once : n ≡ 1 → served R ys (w + 1) ≡ true
-  served-once e = let d : (w + 1) - 1 ≡ w = omega arith in rw (d, ← counted) (eq-eqb n 1 e)
+exactly-one : (n : ℕ) → (leb 1 n && not (leb 2 n)) ≡ eqb n 1
+exactly-one zero = refl
+exactly-one (suc zero) = refl
+exactly-one (suc (suc n)) = rw (le-leb 1 (suc (suc n)) (omega arith), le-leb 2 (suc (suc n)) (omega arith), ne-eqb (suc (suc n)) 1 (λ e. omega arith))
 
-  pub served-ill : (n ≡ 1 → ⊥) → served R ys (w + 1) ≡ false
-  served-ill h = let d : (w + 1) - 1 ≡ w = omega arith in rw (d, ← counted) (ne-eqb n 1 h)
+-- at least one of the transitions is taken, and not two
+pub served-once : (R ys : List ℕ) (w : ℕ) {some several : Bool} → some ≡ leb 1 (howMany ys (λ y. bit (mask R y) w)) → several ≡ leb 2 (howMany ys (λ y. bit (mask R y) w))
+    → (some && not several) ≡ served R ys (w + 1)
+served-once R ys w e f = let d : (w + 1) - 1 ≡ w = omega arith in rw (e, f, d) (exactly-one (howMany ys (λ y. bit (mask R y) w)))
 
 -- ---- an automaton in the form that is lent
 
@@ -96,6 +48,31 @@ module _ (R : List ℕ) (x : ℕ) {n : ℕ} (counted : n ≡ length (statesOf R 
   pub unfit-if-many : 16 < n → automatonFits lent R x ≡ false
   unfolding automatonFits lent fits
   unfit-if-many h = rw (lt-leb (length (statesOf R x)) 16 (rw counted at h))
+
+-- the list that was read, of at most 16
+module _ (ys : List ℕ) (all : Numbers) (listed : Listed ys all) (few : all .count ≤ 16) where
+  pub listed-at : (k : ℕ) → getD (all .numbers) k 0 ≡ getD ys k 0
+  listed-at k =
+      ⊎-elim (λ le. past-end (all .numbers) k (omega (arith, listed .room)) ∙ sym (past-end ys k (omega (arith, listed .count)))) (λ lt. listed .each k lt) (le-or-gt 16 k)
+
+  pub listed-all : take (all .count) (all .numbers) ≡ ys
+  listed-all =
+      let size : length (take (all .count) (all .numbers)) ≡ all .count = length-take-le (all .count) (all .numbers) (omega (arith, listed .room)) in
+      ext-getD 0 (take (all .count) (all .numbers)) ys (size ∙ listed .count)
+      (λ i l. getD-take (all .count) (all .numbers) i 0 (omega (arith, size)) ∙ listed-at i)
+
+-- question 12 of the state at position k
+pub fits-there : (R : List ℕ) (x k v : ℕ) (all : Numbers) (out : Leaving) {small : Bool} → Listed (statesOf R x) all → all .count ≤ 16 → v ≡ automatonWord R x 0
+    → Leaves R (all .numbers) (all .count) (getD (all .numbers) k 0) out → small ≡ ltb (out .once) (2 ^ (2 ^ v)) → (out .fits && small) ≡ fitting R x (getD (statesOf R x) k 0)
+unfolding variables
+fits-there R x k v all out listed few ev leaves e =
+    ap (λ b. out .fits && b) e ∙ leaves .fitting v ∙ rw (ev, listed-all (statesOf R x) all listed few, listed-at (statesOf R x) all listed few k)
+
+-- question 13 of the state at position k
+pub total-there : (R : List ℕ) (x k v : ℕ) (all : Numbers) {b : Bool} → Listed (statesOf R x) all → all .count ≤ 16 → v ≡ automatonWord R x 0
+    → b ≡ total R v (transitionsOf R (getD (all .numbers) k 0)) → b ≡ total R (variables R x) (transitionsOf R (getD (statesOf R x) k 0))
+unfolding variables
+total-there R x k v all listed few ev e = e ∙ rw (ev, listed-at (statesOf R x) all listed few k)
 
 -- the variables that question 9 has bounded
 pub few-variables : (R : List ℕ) (x : ℕ) → T (q9 lent R) → 1 ≤ x → x ≤ automata R → variables R x ≤ 4

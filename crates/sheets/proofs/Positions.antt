@@ -2,19 +2,20 @@
 -- position below n passes, a set of positions as the bits of a word, and a table of rows.
 use mathlib.Core.Path.{_≡_, refl, sym, _∙_}
 use mathlib.Core.Logic.{_⊎_, inl, inr, ⊎-elim}
-use Prim.Native.Nat.{ℕ, zero, suc, _+_, _≤_, _<_}
+use Prim.Native.Nat.{ℕ, zero, suc, _+_, _^_, _≤_, _<_}
 use native.Mathlib.Numerals.{add-one}
 use native.Mathlib.Omega.{arith}
 use mathlib.Core.List.{List, [], _∷_}
-use mathlib.Core.Bool.{Bool, true, false, _&&_, _||_, and-true, and-false, or-false, or-assoc}
+use mathlib.Core.Bool.{Bool, true, false, not, _&&_, _||_, and-true, and-false, or-false, or-assoc}
 use borrow.Author.Tests.{lt-ltb, le-ltb, eq-eqb, ne-eqb}
 use lib.ListN.{length, getD, set}
 use lib.Seq.{getD-set-same, getD-set-other}
-use lib.Dec.{T, ltb, eqb, eqb→eq, eqb-refl}
-use Rattle.sheets.specs.Words.{anyOf, member}
+use lib.Dec.{T, T-not, not-T, ltb, eqb, eqb→eq, eqb-refl}
+use Rattle.sheets.specs.Words.{bit, allOf, anyOf, member}
 use Rattle.sheets.specs.Positions.{someBelow}
-use Rattle.sheets.proofs.Tests.{or-left, or-right, or-cases, passed}
+use Rattle.sheets.proofs.Tests.{or-left, or-right, or-cases, passed, surely}
 use Rattle.sheets.proofs.Search.{le-or-gt}
+use Rattle.sheets.proofs.Bits.{bits-same, no-bit}
 
 -- two tests that pass together are one
 pub same-tests : (a b : Bool) → (T a → T b) → (T b → T a) → a ≡ b
@@ -40,6 +41,19 @@ place-of [] x t = absurd t
 place-of (y ∷ ys) x t =
     ⊎-elim (λ u. (0, omega arith, sym (eqb→eq x y u))) (λ u. let r = place-of ys x u in (suc (r .0), omega arith, r .2))
     (or-cases (eqb x y) (member x ys) t)
+
+-- each element passes, by positions
+module _ (p : ℕ → Bool) where
+  pub all-places : (xs : List ℕ) → ((i : ℕ) → i < length xs → p (getD xs i 0) ≡ true) → allOf xs p ≡ true
+  unfolding allOf
+  all-places [] h = refl
+  all-places (x ∷ xs) h = rw (h 0 (omega arith)) (all-places xs (λ i l. h (suc i) (omega arith)))
+
+  pub place-fails : (xs : List ℕ) (i : ℕ) → i < length xs → p (getD xs i 0) ≡ false → allOf xs p ≡ false
+  unfolding allOf
+  place-fails [] i l e = absurd (omega arith)
+  place-fails (x ∷ xs) zero l e = rw e
+  place-fails (x ∷ xs) (suc i) l e = rw (place-fails xs i (omega arith) e) (and-false (p x))
 
 -- ---- some position passes
 
@@ -75,6 +89,18 @@ pub some-same : (p q : ℕ → Bool) → ((i : ℕ) → p i ≡ q i) → (n : �
 unfolding someBelow
 some-same p q h zero = refl
 some-same p q h (suc n) = rw (some-same p q h n, h n)
+
+-- a word is not 0 where it has some position
+pub some-bit : (n x : ℕ) → x < 2 ^ n → not (eqb x 0) ≡ someBelow n (bit x)
+some-bit n x h =
+    same-tests (not (eqb x 0)) (someBelow n (bit x)) (λ t. surely (someBelow n (bit x)) (λ u. T-not (eqb x 0) t (rw (none u) tt)))
+    (λ t. not-T (eqb x 0) (λ u. let r = some-at (bit x) n t in none-there (r .0) (eqb→eq x 0 u) (r .2)))
+  where
+    none-there : (i : ℕ) → x ≡ 0 → T (bit x i) → ⊥
+    none-there i e t = no-bit i (rw e at t)
+
+    none : T (not (someBelow n (bit x))) → x ≡ 0
+    none t = bits-same n x 0 h (omega arith) (λ i l. (λ u. absurd (T-not (someBelow n (bit x)) t (some-in (bit x) n i l u)), λ u. absurd (no-bit i u)))
 
 -- ---- rows joined: x, and M j for each j below k of the set S; one position more
 

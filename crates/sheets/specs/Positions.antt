@@ -5,12 +5,17 @@ use Prim.Native.Nat.{ℕ, zero, suc}
 use mathlib.Core.List.{List}
 use mathlib.Core.Bool.{Bool, false, not, _&&_, _||_}
 use lib.ListN.{getD}
+use lib.Dec.{ltb, eqb}
 use Rattle.sheets.specs.Words.{bit}
 
 -- the test holds at a position below n
 unfoldable pub someBelow : ℕ → (ℕ → Bool) → Bool
 someBelow zero p = false
 someBelow (suc n) p = someBelow n p || p n
+
+-- t stands at position k, among the first n of the states
+abbrev pub standsAt : List ℕ → ℕ → ℕ → ℕ → Bool
+standsAt states n t k = ltb k n && eqb t (getD states k 0)
 
 -- position i is in row j of a table
 abbrev pub inRow : List ℕ → ℕ → ℕ → Bool

@@ -4,7 +4,7 @@ use mathlib.Core.Path.{_≡_}
 use mathlib.Core.Logic.{_⊎_}
 use Prim.Native.Nat.{ℕ, zero, suc, _+_, _-_, _*_, _^_, _≤_, _<_}
 use mathlib.Core.List.{List}
-use mathlib.Core.Bool.{Bool, true, false, not, _&&_, _||_}
+use mathlib.Core.Bool.{Bool, true, false, not, _&&_}
 use lib.ListN.{length, getD}
 use lib.Dec.{T, eqb}
 use Rattle.sheets.specs.Words.{bit, anyOf}
@@ -57,11 +57,6 @@ pub record GoodRows (R : List ℕ) (all : ℕ → Bool) (x t : ℕ) (exchanged :
 unfoldable pub takes : List ℕ → ℕ → ℕ → ℕ → Bool
 unfolding anyOf transitionsOf mask bit transitionTarget
 takes R q w q′ = anyOf (transitionsOf R q) (λ y. bit (mask R y) w && eqb (transitionTarget R y) q′)
-
--- `after` is `before` with one mask more at each of t positions that has the target
-pub record Added (states : List ℕ) (t target mask : ℕ) (before after : List ℕ) : Type 0 where
-  pub size : length after ≡ 16
-  pub more : (k w : ℕ) → k < t → bit (getD after k 0) w ≡ (bit (getD before k 0) w || (bit mask w && eqb target (getD states k 0)))
 
 -- the lines of variables 1 to v of line j have rows
 abbrev pub Refers : List ℕ → List ℕ → ℕ → ℕ → Type 0

@@ -1,20 +1,24 @@
 -- `total` meets its contract. The invariant: under each valuation passed exactly one transition is taken. The measure is the number of those left.
-use borrow.Author.Needs.{needs}
-use mathlib.Core.Path.{sym}
+use mathlib.Core.Path.{_≡_, sym, _∙_}
 use Prim.Native.Nat.{_-_}
 use native.Mathlib.Omega.{arith}
+use borrow.Author.Tests.{not-true, not-false}
 use Rattle.sheets.specs.Rules.{total, transitionsOf}
 use Rattle.sheets.proofs.EachLoops.{Tested, each-starts, each-goes, each-stops, each-ends}
 use Rattle.sheets.proofs.BitLaws.{one-shifted}
-use Rattle.sheets.proofs.AutomatonLoops.{served, served-once, served-ill}
+use Rattle.sheets.proofs.AutomatonLoops.{served, served-once}
+use borrow.Author.Needs.{needs}
 use Rattle.sheets.proofs.automata.total.Statement.{statement}
 use Rattle.sheets.proofs.automata.total.Tie as tie
 
 abbrev Inv-loop : tie.InvT-loop
-Inv-loop r v q most w₀ w = Tested (served r (transitionsOf r q)) most w
+Inv-loop r v q out most w₀ w = Tested (served r (transitionsOf r q)) most w
 
 abbrev μ-loop : tie.MeasureT-loop
-μ-loop r v q most w₀ w = most - w
+μ-loop r v q out most w₀ w = most - w
+
+leaving-requires : tie.Need-leaving-requires Inv-loop μ-loop
+leaving-requires c κs = search needs
 
 shl-most : tie.Need-shl-most Inv-loop μ-loop
 shl-most c = search needs
@@ -22,17 +26,21 @@ shl-most c = search needs
 loop-holds : tie.Need-loop-holds Inv-loop μ-loop
 loop-holds c = each-starts _ _
 
-takers-requires : tie.Need-takers-requires Inv-loop μ-loop
-takers-requires c κs = search needs
+bit-requires : tie.Need-bit-requires Inv-loop μ-loop
+bit-requires c κs = search needs
+
+bit-requires-2 : tie.Need-bit-requires-2 Inv-loop μ-loop
+bit-requires-2 c κs = search needs
 
 returns : tie.Need-returns Inv-loop μ-loop
 unfolding total
 returns c =
-    let a = c .before .before .before .before .before .args in
-    let w = c .before .before .before .loop .w in
-    let h = served-ill (a .r .now) (transitionsOf (a .r .now) (a .q)) w _ (c .before .takers .ensures) (c .if1 .taken) in
-    sym (each-stops (served (a .r .now) (transitionsOf (a .r .now) (a .q))) (one-shifted 16 (a .v) (omega arith))
-    (c .before .before .loop-test .taken) h)
+    let turn = c .before .before .before in
+    let read = turn .before .before in
+    let a = read .before .before .args in
+    let w = turn .before .loop .w in
+    let one = served-once (a .r .now) (transitionsOf (a .r .now) (a .q)) w (c .before .before .bit .ensures ∙ read .leaving .ensures .some w) (c .before .bit2 .ensures ∙ read .leaving .ensures .several w) in
+    sym (each-stops (served (a .r .now) (transitionsOf (a .r .now) (a .q))) (one-shifted 16 (a .v) (omega arith)) (turn .loop-test .taken) (sym one ∙ not-true _ (c .if1 .taken)))
 
 add-w : tie.Need-add-w Inv-loop μ-loop
 add-w c = search needs
@@ -42,15 +50,16 @@ loop-less c = search needs
 
 loop-again : tie.Need-loop-again Inv-loop μ-loop
 loop-again c =
-    let a = c .before .before .before .before .before .args in
-    let w = c .before .before .before .loop .w in
-    let h = served-once (a .r .now) (transitionsOf (a .r .now) (a .q)) w _ (c .before .takers .ensures) (c .if1 .left) in
-    each-goes (served (a .r .now) (transitionsOf (a .r .now) (a .q)))
-    (c .before .before .loop-test .taken) (c .before .before .before .loop .inv) h
+    let turn = c .before .before .before in
+    let read = turn .before .before in
+    let a = read .before .before .args in
+    let w = turn .before .loop .w in
+    let one = served-once (a .r .now) (transitionsOf (a .r .now) (a .q)) w (c .before .before .bit .ensures ∙ read .leaving .ensures .some w) (c .before .bit2 .ensures ∙ read .leaving .ensures .several w) in
+    each-goes (served (a .r .now) (transitionsOf (a .r .now) (a .q))) (turn .loop-test .taken) (turn .before .loop .inv) (sym one ∙ not-false _ (c .if1 .left))
 
 returns-2 : tie.Need-returns-2 Inv-loop μ-loop
 unfolding total
-returns-2 c = sym (each-ends _ (one-shifted 16 (c .before .before .before .args .v) (omega arith)) (c .loop-test .left) (c .before .loop .inv))
+returns-2 c = sym (each-ends _ (one-shifted 16 (c .before .before .before .before .args .v) (omega arith)) (c .loop-test .left) (c .before .loop .inv))
 
 pub total-spec : {M : Type 1} → statement M
 total-spec =
@@ -58,9 +67,11 @@ total-spec =
     (tie.spec
     Inv-loop
     μ-loop
+    leaving-requires
     shl-most
     loop-holds
-    takers-requires
+    bit-requires
+    bit-requires-2
     returns
     add-w
     loop-less

@@ -1,5 +1,5 @@
 -- `accepting_row` meets its contract. The invariant: the set so far has the positions below i of accepting states. The measure is what is left of n.
-use mathlib.Core.Path.{_≡_, sym, ap, _∙_}
+use mathlib.Core.Path.{_≡_, sym, _∙_}
 use Prim.Native.Nat.{ℕ, _-_, _≤_}
 use native.Mathlib.Omega.{arith}
 use mathlib.Core.List.{List}
@@ -7,30 +7,36 @@ use mathlib.Core.Bool.{Bool}
 use borrow.Author.Tests.{eq-eqb, ne-eqb}
 use lib.ListN.{getD}
 use Rattle.sheets.specs.Words.{bit}
-use Rattle.sheets.specs.Rules.{statesOf, accepting, stateWord}
+use Rattle.sheets.specs.Rules.{accepting}
 use Rattle.sheets.proofs.BitLaws.{bit-none}
 use Rattle.sheets.proofs.Positions.{upTo, upTo-none, upTo-yes, upTo-no}
 use borrow.Author.Needs.{needs}
 use Rattle.sheets.proofs.condition.accepting_row.Statement.{statement}
 use Rattle.sheets.proofs.condition.accepting_row.Tie as tie
 
-abbrev test : List ℕ → ℕ → ℕ → Bool
-test r x i = accepting r (getD (statesOf r x) i 0)
+abbrev test : List ℕ → List ℕ → ℕ → Bool
+test r states i = accepting r (getD states i 0)
 
 abbrev Inv-loop : tie.InvT-loop
-Inv-loop r x n out₀ i₀ out i = (i ≤ n) × ((k : ℕ) → bit out k ≡ upTo (test r x) k i)
+Inv-loop r n states out₀ i₀ out i = (i ≤ n) × ((k : ℕ) → bit out k ≡ upTo (test r states) k i)
 
 abbrev μ-loop : tie.MeasureT-loop
-μ-loop r x n out₀ i₀ out i = n - i
+μ-loop r n states out₀ i₀ out i = n - i
 
 loop-holds : tie.Need-loop-holds Inv-loop μ-loop
-loop-holds c = (omega arith, λ k. bit-none k ∙ sym (upTo-none (test (c .before .args .r .now) (c .before .args .x)) k))
+loop-holds c = (omega arith, λ k. bit-none k ∙ sym (upTo-none (test (c .before .args .r .now) (c .before .args .t2)) k))
 
 add-i : tie.Need-add-i Inv-loop μ-loop
 add-i c = search needs
 
-state-at-requires : tie.Need-state-at-requires Inv-loop μ-loop
-state-at-requires c κs = search needs
+cast-state-word : tie.Need-cast-state-word Inv-loop μ-loop
+cast-state-word c = search needs
+
+mul-state-word : tie.Need-mul-state-word Inv-loop μ-loop
+mul-state-word c = search needs
+
+array-read-state-word : tie.Need-array-read-state-word Inv-loop μ-loop
+array-read-state-word c = search needs
 
 state-word-requires : tie.Need-state-word-requires Inv-loop μ-loop
 state-word-requires c κs = search needs
@@ -44,10 +50,9 @@ loop-less c = search needs
 loop-again : tie.Need-loop-again Inv-loop μ-loop
 unfolding accepting
 loop-again c =
-    let a = c .before .before .before .before .before .before .before .args in
-    let at = c .before .before .before .before .before .loop in
-    let w = sym (c .before .before .state-word .ensures ∙ ap (λ (q : ℕ). stateWord (a .r .now) q 0) (c .before .before .before .state-at .ensures)) ∙ c .before .if1 .taken in
-    (omega arith, λ k. c .with .ensures k ∙ upTo-yes (test (a .r .now) (a .x)) k _ _ (at .inv .1 k) (eq-eqb _ 1 w))
+    let a = c .before .before .before .before .before .before .args in
+    let at = c .before .before .before .before .loop in
+    (omega arith, λ k. c .with .ensures k ∙ upTo-yes (test (a .r .now) (a .t2)) k _ _ (at .inv .1 k) (eq-eqb _ 1 (sym (c .before .before .state-word .ensures) ∙ c .before .if1 .taken)))
 
 loop-less-2 : tie.Need-loop-less-2 Inv-loop μ-loop
 loop-less-2 c = search needs
@@ -55,10 +60,9 @@ loop-less-2 c = search needs
 loop-again-2 : tie.Need-loop-again-2 Inv-loop μ-loop
 unfolding accepting
 loop-again-2 c =
-    let a = c .before .before .before .before .before .before .args in
-    let at = c .before .before .before .before .loop in
-    let w = c .before .state-word .ensures ∙ ap (λ (q : ℕ). stateWord (a .r .now) q 0) (c .before .before .state-at .ensures) in
-    (omega arith, λ k. upTo-no (test (a .r .now) (a .x)) k _ _ (at .inv .1 k) (ne-eqb _ 1 (λ e. c .if1 .left (w ∙ e))))
+    let a = c .before .before .before .before .before .args in
+    let at = c .before .before .before .loop in
+    (omega arith, λ k. upTo-no (test (a .r .now) (a .t2)) k _ _ (at .inv .1 k) (ne-eqb _ 1 (λ e. c .if1 .left (c .before .state-word .ensures ∙ e))))
 
 returns : tie.Need-returns Inv-loop μ-loop
 returns c =
@@ -73,7 +77,9 @@ accepting-row-spec =
     μ-loop
     loop-holds
     add-i
-    state-at-requires
+    cast-state-word
+    mul-state-word
+    array-read-state-word
     state-word-requires
     with-requires
     loop-less

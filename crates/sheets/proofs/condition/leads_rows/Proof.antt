@@ -8,30 +8,36 @@ use mathlib.Core.Bool.{_&&_}
 use lib.ListN.{length, getD, length-set}
 use lib.Dec.{ltb}
 use Rattle.sheets.specs.Words.{bit}
-use Rattle.sheets.specs.Rules.{statesOf, leads}
+use Rattle.sheets.specs.Rules.{leads}
 use Rattle.sheets.proofs.Positions.{stored}
 use borrow.Author.Needs.{needs}
 use Rattle.sheets.proofs.condition.leads_rows.Statement.{statement}
 use Rattle.sheets.proofs.condition.leads_rows.Tie as tie
 
 -- v is the row of state p
-abbrev Row : List ℕ → ℕ → ℕ → ℕ → ℕ → Type 0
-Row r x n p v = (i : ℕ) → bit v i ≡ (ltb i n && leads r p (getD (statesOf r x) i 0))
+abbrev Row : List ℕ → List ℕ → ℕ → ℕ → ℕ → Type 0
+Row r states n p v = (i : ℕ) → bit v i ≡ (ltb i n && leads r p (getD states i 0))
 
 abbrev Inv-loop : tie.InvT-loop
-Inv-loop r x n rows₀ j₀ rows j = (j ≤ n) × (length rows ≡ 16) × ((k : ℕ) → k < j → Row r x n (getD (statesOf r x) k 0) (getD rows k 0))
+Inv-loop r n states rows₀ j₀ rows j = (j ≤ n) × (length rows ≡ 16) × ((k : ℕ) → k < j → Row r states n (getD states k 0) (getD rows k 0))
 
 abbrev μ-loop : tie.MeasureT-loop
-μ-loop r x n rows₀ j₀ rows j = n - j
+μ-loop r n states rows₀ j₀ rows j = n - j
 
 loop-holds : tie.Need-loop-holds Inv-loop μ-loop
 loop-holds c = (omega arith, search needs, λ k l. absurd (omega arith))
 
-state-at-requires : tie.Need-state-at-requires Inv-loop μ-loop
-state-at-requires c κs = search needs
+cast-leaving : tie.Need-cast-leaving Inv-loop μ-loop
+cast-leaving c = search needs
 
-leads-row-requires : tie.Need-leads-row-requires Inv-loop μ-loop
-leads-row-requires c κs = search needs
+mul-leaving : tie.Need-mul-leaving Inv-loop μ-loop
+mul-leaving c = search needs
+
+array-read-leaving : tie.Need-array-read-leaving Inv-loop μ-loop
+array-read-leaving c = search needs
+
+leaving-requires : tie.Need-leaving-requires Inv-loop μ-loop
+leaving-requires c κs = search needs
 
 cast-rows : tie.Need-cast-rows Inv-loop μ-loop
 cast-rows c = search needs
@@ -50,13 +56,11 @@ loop-less c = search needs
 
 loop-again : tie.Need-loop-again Inv-loop μ-loop
 loop-again c =
-    let a = c .before .before .before .before .before .args in
-    let at = c .before .before .before .loop in
-    let s = statesOf (a .r .now) (a .x) in (
+    let a = c .before .before .before .before .args in
+    let at = c .before .before .loop in (
       omega arith,
       simp length-set (at .inv .1),
-      stored (λ k v. Row (a .r .now) (a .x) (a .n) (getD s k 0) v) (at .rows) (at .j) (c .leads-row .result) (omega arith) (at .inv .2)
-          (rw (c .before .state-at .ensures) at (c .leads-row .ensures)),
+      stored (λ k v. Row (a .r .now) (a .t2) (a .n) (getD (a .t2) k 0) v) (at .rows) (at .j) (c .leaving .result .led) (omega arith) (at .inv .2) (c .leaving .ensures .leading),
     )
 
 returns : tie.Need-returns Inv-loop μ-loop
@@ -71,8 +75,10 @@ leads-rows-spec =
     Inv-loop
     μ-loop
     loop-holds
-    state-at-requires
-    leads-row-requires
+    cast-leaving
+    mul-leaving
+    array-read-leaving
+    leaving-requires
     cast-rows
     mul-rows
     array-write-rows
