@@ -5,6 +5,7 @@ ghost use Prim.Native.Nat.{ℕ, _+_, _<_, _≤_};
 ghost use lib.ListN.{length};
 ghost use Rattle.truth.specs.Passed as Passed;
 ghost use Rattle.truth.specs.Rows.{rowHas, rowsHas};
+ghost use Rattle.truth.specs.Targets.{TailOf};
 ghost use Rattle.truth.proofs.Passed.{intoSet};
 ghost use Rattle.comparison.specs.Bounded.{Bounded};
 ghost use Rattle.comparison.specs.Tables.{state, written, Room, SplitBlock};
@@ -22,6 +23,7 @@ use crate::writing::write_next;
 use truth::header;
 use truth::rows::Row;
 use truth::structure;
+use truth::structure::Tail;
 use truth::tables::load;
 use truth::tables::store;
 
@@ -142,8 +144,10 @@ fn by_next(
     stand: Stand,
     c: u16,
     d: u16,
+    tail1: Tail,
+    tail2: Tail,
 ) -> Stand
-    requires { ⌜ (d < 256) × Room (written (state (now first) (now second) (now line) (now words) stand) (now words)) c ⌝ }
+    requires { ⌜ (d < 256) × Room (written (state (now first) (now second) (now line) (now words) stand) (now words)) c × TailOf (now m1) tail1 × TailOf (now m2) tail2 ⌝ }
     ensures { λ r. ⌜
         SplitBlock
         (written (state (now (first .entry)) (now (second .entry)) (now (line .entry)) (now (words .entry)) stand) (now (words .entry)))
@@ -152,8 +156,8 @@ fn by_next(
         (intoSet (now (m1 .entry)) (rowsHas (now (first .entry)) d)) (intoSet (now (m2 .entry)) (rowsHas (now (second .entry)) d))
         ⌝ }
 {
-    let x1 = leading(m1, load(first, c as usize), load(first, d as usize));
-    let x2 = leading(m2, load(second, c as usize), load(second, d as usize));
+    let x1 = leading(m1, load(first, c as usize), load(first, d as usize), tail1);
+    let x2 = leading(m2, load(second, c as usize), load(second, d as usize), tail2);
     let p = stand.lines + 1;
     let next = Stand {
         count: stand.count,
@@ -197,6 +201,8 @@ fn turn(
         (state (now (first .exit)) (now (second .exit)) (now (line .exit)) (now (words .exit)) r)
         ⌝ }
 {
+    let tail1 = structure::shared_tail(m1);
+    let tail2 = structure::shared_tail(m2);
     let mut mark1 = marks(first, stand.count);
     let mut mark2 = marks(second, stand.count);
     let mut all = structure::node_row(stand.count);
@@ -205,12 +211,24 @@ fn turn(
     while c < so_far.count {
         let row1 = load(first, c as usize);
         let row2 = load(second, c as usize);
-        let e = splitter(m1, m2, &mark1, &mark2, all, row1, row2);
+        let e = splitter(m1, m2, &mark1, &mark2, all, row1, row2, tail1, tail2);
         if e == 0 {
             c += 1;
         } else {
             write_next(words, so_far.lines, line[e as usize - 1]);
-            so_far = by_next(m1, m2, first, second, line, words, so_far, c, e - 1);
+            so_far = by_next(
+                m1,
+                m2,
+                first,
+                second,
+                line,
+                words,
+                so_far,
+                c,
+                e - 1,
+                tail1,
+                tail2,
+            );
             mark_block(&mut mark1, &mut mark2, first, second, so_far.count - 1);
             all = all.with(so_far.count);
         }

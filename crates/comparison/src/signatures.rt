@@ -4,10 +4,12 @@ ghost use mathlib.Core.Bool.{true, _&&_};
 ghost use Prim.Native.Nat.{ℕ, _≤_};
 ghost use lib.ListN.{length};
 ghost use Rattle.truth.specs.Rows.{rowHas, rowsHas, leadsInto, First};
+ghost use Rattle.truth.specs.Targets.{TailOf};
 ghost use Rattle.comparison.specs.Signatures.{MarkedRow, Marked, MarksIn, TellsApart, TellsUnlike, TellsOne, Alone, Led, TellsMark};
 ghost use Rattle.comparison.specs.Blocks.{Members};
 use truth::rows::Row;
 use truth::structure;
+use truth::structure::Tail;
 use truth::tables::load;
 
 // The signature of one node, and the other nodes of each machine.
@@ -62,7 +64,8 @@ pub fn marks(rows: &[u64; 512], n: u16) -> [u16; 256]
 }
 
 // The nodes of the row with an edge into the other.
-pub fn leading(m: &[u16], row: Row, into: Row) -> Row
+pub fn leading(m: &[u16], row: Row, into: Row, tail: Tail) -> Row
+    requires { ⌜ TailOf (now m) tail ⌝ }
     ensures { λ r. ⌜ ((s : ℕ) → rowHas r s ≡ (rowHas row s && leadsInto (now (m .entry)) (rowHas into) s)) ⌝ }
 {
     let mut out = Row::empty();
@@ -73,7 +76,7 @@ pub fn leading(m: &[u16], row: Row, into: Row) -> Row
             return out;
         }
         left = left.without(s);
-        if structure::leads_into(m, s, into) {
+        if structure::leads_into(m, s, into, tail) {
             out = out.with(s);
         }
     }
@@ -87,8 +90,8 @@ fn apart(a: Row, b: Row) -> u16
 }
 
 // A mark in which the signature of a node of the row differs from l, or 0.
-fn unlike(m: &[u16], mark: &[u16; 256], all: Row, row: Row, l: Row) -> u16
-    requires { ⌜ MarksIn (now m) (now mark) (rowHas row) (rowHas all) ⌝ }
+fn unlike(m: &[u16], mark: &[u16; 256], all: Row, row: Row, l: Row, tail: Tail) -> u16
+    requires { ⌜ MarksIn (now m) (now mark) (rowHas row) (rowHas all) × TailOf (now m) tail ⌝ }
     ensures { λ r. ⌜ TellsUnlike (now (m .entry)) (now (mark .entry)) (rowHas row) (rowHas l) r ⌝ }
 {
     let mut left = row;
@@ -97,7 +100,7 @@ fn unlike(m: &[u16], mark: &[u16; 256], all: Row, row: Row, l: Row) -> u16
         if s == 0 {
             return 0;
         }
-        let e = apart(structure::marks_into(m, mark, all, s), l);
+        let e = apart(structure::marks_into(m, mark, all, s, tail), l);
         if e != 0 {
             return e;
         }
@@ -137,14 +140,16 @@ fn led_by(
     all: Row,
     row1: Row,
     row2: Row,
+    tail1: Tail,
+    tail2: Tail,
 ) -> Lead
-    requires { ⌜ MarksIn (now m1) (now mark1) (rowHas row1) (rowHas all) × MarksIn (now m2) (now mark2) (rowHas row2) (rowHas all) ⌝ }
+    requires { ⌜ MarksIn (now m1) (now mark1) (rowHas row1) (rowHas all) × MarksIn (now m2) (now mark2) (rowHas row2) (rowHas all) × TailOf (now m1) tail1 × TailOf (now m2) tail2 ⌝ }
     ensures { λ r. ⌜ Led (now (m1 .entry)) (now (m2 .entry)) (now (mark1 .entry)) (now (mark2 .entry)) (rowHas row1) (rowHas row2) r ⌝ }
 {
     let s = last(row1);
     if s != 0 {
         return Lead {
-            marks: structure::marks_into(m1, mark1, all, s),
+            marks: structure::marks_into(m1, mark1, all, s, tail1),
             rest1: row1.without(s),
             rest2: row2,
         };
@@ -152,7 +157,7 @@ fn led_by(
     let t = last(row2);
     if t != 0 {
         return Lead {
-            marks: structure::marks_into(m2, mark2, all, t),
+            marks: structure::marks_into(m2, mark2, all, t, tail2),
             rest1: row1,
             rest2: row2.without(t),
         };
@@ -173,8 +178,10 @@ pub fn splitter(
     all: Row,
     row1: Row,
     row2: Row,
+    tail1: Tail,
+    tail2: Tail,
 ) -> u16
-    requires { ⌜ MarksIn (now m1) (now mark1) (rowHas row1) (rowHas all) × MarksIn (now m2) (now mark2) (rowHas row2) (rowHas all) ⌝ }
+    requires { ⌜ MarksIn (now m1) (now mark1) (rowHas row1) (rowHas all) × MarksIn (now m2) (now mark2) (rowHas row2) (rowHas all) × TailOf (now m1) tail1 × TailOf (now m2) tail2 ⌝ }
     ensures { λ r. ⌜
         ((m₁ m₂ : Members) (c : ℕ) → ((s : ℕ) → rowHas row1 s ≡ m₁ c s) → ((t : ℕ) → rowHas row2 t ≡ m₂ c t)
         → TellsMark (now (m1 .entry)) (now (m2 .entry)) m₁ m₂ (now (mark1 .entry)) (now (mark2 .entry)) c r)
@@ -183,10 +190,10 @@ pub fn splitter(
     if alone(row1, row2) {
         return 0;
     }
-    let found = led_by(m1, m2, mark1, mark2, all, row1, row2);
-    let e = unlike(m1, mark1, all, found.rest1, found.marks);
+    let found = led_by(m1, m2, mark1, mark2, all, row1, row2, tail1, tail2);
+    let e = unlike(m1, mark1, all, found.rest1, found.marks, tail1);
     if e != 0 {
         return e;
     }
-    unlike(m2, mark2, all, found.rest2, found.marks)
+    unlike(m2, mark2, all, found.rest2, found.marks, tail2)
 }

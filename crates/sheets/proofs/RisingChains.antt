@@ -1,16 +1,17 @@
 -- Chains rise: a link leads to a higher number, so the records of a chain stand in rising order, and none is on it twice.
-use mathlib.Core.Path.{_≡_}
+use mathlib.Core.Path.{_≡_, refl, sym, _∙_, ap, subst}
 use mathlib.Core.Logic.{_⊎_, ⊎-elim}
-use Prim.Native.Nat.{ℕ, zero, suc, _≤_, _<_}
+use Prim.Native.Nat.{ℕ, zero, suc, _+_, _≤_, _<_}
 use native.Mathlib.Omega.{arith}
-use mathlib.Core.List.{List}
+use mathlib.Core.List.{List, [], _∷_}
 use lib.ListN.{length, getD}
 use Rattle.sheets.specs.Words.{chain}
+use Rattle.sheets.specs.Machine.{edges, edgeWord, machineRefusal, q5}
 use Rattle.sheets.specs.Rules.{Form, states, automata, stateWord, initial, statesOf, ruleRefusal, q10}
 use Rattle.sheets.proofs.Tests.{and-right}
 use Rattle.sheets.proofs.Search.{le-or-gt, each-at}
 use Rattle.sheets.proofs.Chains.{link-rises}
-use Rattle.sheets.proofs.Questions.{rule-answers}
+use Rattle.sheets.proofs.Questions.{machine-answers, rule-answers}
 use Rattle.sheets.proofs.AcceptedRule.{initial-in}
 
 -- a link is none, or a higher record's number
@@ -47,6 +48,27 @@ module _ (m : ℕ) (next : ℕ → ℕ) (rising : Rising m next) where
       let r = goes-up f (suc i) b (omega arith) h (omega arith) in omega (arith, from-first f (next (suc i)) b (r .1) (omega arith))
   chain-rises (suc f) (suc i) (suc a) (suc b) h l k =
       let r = goes-up f (suc i) b (omega arith) h (omega arith) in chain-rises f (next (suc i)) a b (r .1) (omega arith) (omega arith)
+
+  -- however many records may be read, if they are enough
+  pub chain-enough : (f g x : ℕ) → x ≤ m → m < f + x → m < g + x → chain f next x ≡ chain g next x
+  unfolding chain
+  chain-enough zero g x h a b = absurd (omega arith)
+  chain-enough (suc f) zero x h a b = absurd (omega arith)
+  chain-enough (suc f) (suc g) zero h a b = refl
+  chain-enough (suc f) (suc g) (suc x) h a b =
+      ap (λ ys. suc x ∷ ys)
+      (⊎-elim (λ e. subst (λ y. chain f next y ≡ chain g next y) (sym e) (none f ∙ sym (none g))) (λ r. chain-enough f g (next (suc x)) (r .1) (omega (arith, r .0)) (omega (arith, r .0)))
+      (rising (suc x) (omega arith) h))
+    where
+      none : (f : ℕ) → chain f next 0 ≡ []
+      none zero = refl
+      none (suc f) = refl
+
+-- the links of an accepted machine's edges
+pub edges-rise : (M : List ℕ) → machineRefusal M ≡ 0 → Rising (edges M) (λ x. edgeWord M x 1)
+unfolding q5
+edges-rise M accepted x lo hi =
+    link-rises (edges M) x (edgeWord M x 1) (search (and-right, each-at (edges M) _ (machine-answers M accepted .five) x lo hi))
 
 -- the states of an accepted sheet's automaton stand at one position each
 module _ (F : Form) (R : List ℕ) (accepted : ruleRefusal F R ≡ 0) (x : ℕ) (lo : 1 ≤ x) (hi : x ≤ automata R) where

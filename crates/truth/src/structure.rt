@@ -1,15 +1,15 @@
 // The machine's structure in rows, read from the lent words: the nodes with an edge into a row, the nodes of a signal, the start nodes.
 ghost use mathlib.Core.Path.{_≡_};
-ghost use mathlib.Core.Logic.{_↔_};
+ghost use mathlib.Core.Logic.{_↔_, _⊎_};
 ghost use mathlib.Core.Bool.{true, false, _&&_};
 ghost use Prim.Native.Nat.{ℕ, _+_, _-_, _<_, _≤_};
 ghost use lib.Dec.{T, eqb, leb};
 ghost use Rattle.sheets.specs.Words.{within};
 ghost use Rattle.sheets.specs.Machine as Machine;
 ghost use Rattle.sheets.specs.Records.{recordWord};
-ghost use Rattle.sheets.specs.Gathered.{records, Along};
+ghost use Rattle.sheets.specs.Gathered.{records, Leaves, Until};
 ghost use Rattle.truth.specs.Rows.{rowHas, rowsHas, leadsInto, marksInto};
-ghost use Rattle.truth.specs.Targets.{TargetTaken};
+ghost use Rattle.truth.specs.Targets.{TargetsTaken, TailMet, TailOf, chainLeads};
 ghost use Rattle.truth.specs.Pairs.{Before};
 use crate::rows::Row;
 use crate::tables::load;
@@ -19,65 +19,179 @@ use sheets::machine;
 use sheets::walker;
 use sheets::words::Step;
 
-// One record's target more.
-fn with_target(a: Row, s: Step) -> Row
-    ensures { λ r. ⌜ TargetTaken a s r ⌝ }
+// A tail that chains share: the nodes that the chain from record `at` on leads to; 0 where there is none.
+pub struct Tail {
+    pub at: u16,
+    pub row: Row,
+}
+
+// What is gathered of a chain: the targets so far, the link of the last record, a tail whose targets are known, and whether it was met.
+struct Targets {
+    row: Row,
+    link: u16,
+    tail: Tail,
+    met: bool,
+}
+
+pub fn no_tail() -> Tail
+    ensures { λ r. ⌜ r .at ≡ 0 ⌝ }
+{
+    Tail {
+        at: 0,
+        row: Row::EMPTY,
+    }
+}
+
+// No target yet.
+fn no_targets(tail: Tail) -> Targets
+    ensures { λ r. ⌜ (r .tail ≡ tail) × ((r .met ≡ false) × ((t : ℕ) → rowHas (r .row) t ≡ false)) ⌝ }
+{
+    let row = Row::empty();
+    Targets {
+        row,
+        link: 0,
+        tail,
+        met: false,
+    }
+}
+
+// One record's target more, or at the tail those of the whole tail.
+fn with_target(a: Targets, s: Step) -> Targets
+    ensures { λ r. ⌜ TargetsTaken a s r ⌝ }
 {
     match s {
         Step::Record {
-            number: _,
+            number,
             first,
             second: _,
-            next: _,
-        } => a.with(first),
+            next,
+        } => {
+            let row = a.row;
+            let tail = a.tail;
+            if number == tail.at {
+                let rest = tail.row;
+                let all = row.union(rest);
+                return Targets {
+                    row: all,
+                    link: next,
+                    tail,
+                    met: true,
+                };
+            }
+            let more = row.with(first);
+            Targets {
+                row: more,
+                link: next,
+                tail,
+                met: a.met,
+            }
+        }
         Step::End => a,
     }
 }
 
-// The row with the targets on a chain more, read by one walker.
-fn targets_along(ws: &[u16], base: u32, width: u16, first: u16, mut left: u16, mut a: Row) -> Row
-    ensures { λ r. ⌜ Along TargetTaken (records (recordWord (now (ws .entry)) base width) width left first) a r ⌝ }
+// How many records may still be read: none after the tail was met.
+fn targets_left(a: Targets, left: u16, s: Step) -> u16
+    ensures { λ r. ⌜ Leaves TailMet a left s r ⌝ }
+{
+    if a.met {
+        return 0;
+    }
+    along::left_after(left, s)
+}
+
+// The targets on a chain more, read by one walker, to the chain's end or to the tail.
+fn targets_along(
+    ws: &[u16],
+    base: u32,
+    width: u16,
+    first: u16,
+    mut left: u16,
+    mut a: Targets,
+) -> Targets
+    ensures { λ r. ⌜ Until TargetsTaken TailMet (records (recordWord (now (ws .entry)) base width) width left first) a r ⌝ }
 {
     let mut w = walker::new(ws, base, width, first);
     while left > 0 {
         let step = walker::next(&mut w);
         a = with_target(a, step);
-        left = along::left_after(left, step);
+        left = targets_left(a, left, step);
     }
     a
 }
 
+// The tail, if record x is one of e; a chain from elsewhere is read to its end.
+fn tail_for(tail: Tail, x: u16, e: u16) -> Tail
+    ensures { λ r. ⌜ (r .at ≡ 0) ⊎ ((r ≡ tail) × (x ≤ e)) ⌝ }
+{
+    if x <= e {
+        return tail;
+    }
+    no_tail()
+}
+
+// The nodes that the chain from record x on leads to.
+fn chain_row(m: &[u16], x: u16, tail: Tail) -> Row
+    requires { ⌜ TailOf (now m) tail ⌝ }
+    ensures { λ r. ⌜ ((t : ℕ) → rowHas r t ≡ (within 1 128 t && chainLeads (now (m .entry)) x t)) ⌝ }
+{
+    let n = machine::nodes(m);
+    let e = machine::edges(m);
+    let none = no_targets(tail_for(tail, x, e));
+    let all = targets_along(m, 3 + 3 * (n as u32), 2, x, e, none);
+    all.row
+}
+
 // The nodes that the edges of node s lead to.
-pub fn successor_row(m: &[u16], s: u16) -> Row
+pub fn successor_row(m: &[u16], s: u16, tail: Tail) -> Row
+    requires { ⌜ TailOf (now m) tail ⌝ }
     ensures { λ r. ⌜ ((t : ℕ) → rowHas r t ≡ (within 1 128 t && Machine.kripke (now (m .entry)) .edge s t)) ⌝ }
 {
-    let n = machine::nodes(m);
-    let first = machine::node_word(m, s, 2);
-    let left = machine::edges(m);
-    targets_along(m, 3 + 3 * (n as u32), 2, first, left, Row::empty())
+    chain_row(m, machine::node_word(m, s, 2), tail)
 }
 
-// Some edge of node s leads into the row.
-pub fn leads_into(m: &[u16], s: u16, row: Row) -> bool
-    ensures { λ r. ⌜ r ≡ leadsInto (now (m .entry)) (rowHas row) s ⌝ }
-{
-    successor_row(m, s).meets(row)
-}
-
-// The nodes with an edge into the row.
-pub fn some_next(m: &[u16], row: Row) -> Row
-    ensures { λ r. ⌜ ((s : ℕ) → rowHas r s ≡ (leb s (Machine.nodes (now (m .entry))) && (within 1 128 s && leadsInto (now (m .entry)) (rowHas row) s))) ⌝ }
-{
+// Where the chains of the nodes may have become one: the highest record that comes after the first ones of a chain, as many as there are
+// records for each node. It only saves work, and any record would do.
+fn joint(m: &[u16]) -> u16 {
     let n = machine::nodes(m);
-    let mut out = Row::empty();
+    let e = machine::edges(m);
+    if n == 0 {
+        return 0;
+    }
+    let share = e / n;
+    let none = no_targets(no_tail());
+    let mut at: u16 = 0;
     let mut s: u16 = 0;
     while s < n {
         s += 1;
-        if leads_into(m, s, row) {
-            out = out.with(s);
+        let first = machine::node_word(m, s, 2);
+        let read = targets_along(m, 3 + 3 * (n as u32), 2, first, share, none);
+        if read.link > at {
+            at = read.link;
         }
     }
-    out
+    at
+}
+
+// A tail that chains of the machine share, if there is one.
+pub fn shared_tail(m: &[u16]) -> Tail
+    requires { ⌜ Machine.machineRefusal (now m) ≡ 0 ⌝ }
+    ensures { λ r. ⌜ TailOf (now (m .entry)) r ⌝ }
+{
+    let at = joint(m);
+    if at > machine::edges(m) {
+        return no_tail();
+    }
+    let row = chain_row(m, at, no_tail());
+    Tail { at, row }
+}
+
+// Some edge of node s leads into the row.
+pub fn leads_into(m: &[u16], s: u16, row: Row, tail: Tail) -> bool
+    requires { ⌜ TailOf (now m) tail ⌝ }
+    ensures { λ r. ⌜ r ≡ leadsInto (now (m .entry)) (rowHas row) s ⌝ }
+{
+    successor_row(m, s, tail).meets(row)
 }
 
 // The nodes 1 to n.
@@ -127,12 +241,12 @@ pub fn start_row(m: &[u16]) -> Row
 
 // The marks that the edges of node s lead to, where `mark` has the mark of each node, 0 for none, and `all` has at least these marks. No
 // mark is read when all are found.
-pub fn marks_into(m: &[u16], mark: &[u16; 256], all: Row, s: u16) -> Row
-    requires { ⌜ ((e : ℕ) → T (marksInto (now m) (now mark) s e) → T (rowHas all e)) ⌝ }
+pub fn marks_into(m: &[u16], mark: &[u16; 256], all: Row, s: u16, tail: Tail) -> Row
+    requires { ⌜ ((e : ℕ) → T (marksInto (now m) (now mark) s e) → T (rowHas all e)) × TailOf (now m) tail ⌝ }
     ensures { λ r. ⌜ ((e : ℕ) → rowHas r e ≡ marksInto (now (m .entry)) (now (mark .entry)) s e) ⌝ }
 {
     let mut out = Row::empty();
-    let mut left = successor_row(m, s);
+    let mut left = successor_row(m, s, tail);
     loop {
         if all.difference(out).is_empty() {
             return out;
@@ -154,7 +268,7 @@ pub fn successors(m: &[u16]) -> [u64; 512]
     let mut out = [0u64; 512];
     let mut s: u16 = 0;
     while s < n && s < 256 {
-        let row = successor_row(m, s + 1);
+        let row = successor_row(m, s + 1, no_tail());
         store(&mut out, s as usize, row);
         s += 1;
     }

@@ -7,6 +7,7 @@ use Prim.Native.Nat.{_+_, _-_, _*_, _≤_}
 use native.Mathlib.Omega.{arith}
 use lib.ListN.{length}
 use Rattle.truth.specs.Rows.{rowHas, rowsHas}
+use Rattle.truth.specs.Targets.{TailOf}
 use Rattle.truth.proofs.tables.TableLaws.{loaded}
 use Rattle.comparison.specs.Tables.{State, state, written, firstOf, secondOf, Room}
 use Rattle.comparison.specs.Signatures.{TellsMark}
@@ -16,12 +17,12 @@ use Rattle.comparison.proofs.refine.turn.Statement.{statement}
 use Rattle.comparison.proofs.refine.turn.Tie as tie
 
 abbrev Inv-loop : tie.InvT-loop
-Inv-loop m1 m2 first₀ second₀ line₀ words₀ mark1₀ mark2₀ all₀ so-far₀ c₀ first second line words mark1 mark2 all so-far c =
-    (length mark1 ≡ 256) × (length mark2 ≡ 256)
+Inv-loop m1 m2 first₀ second₀ line₀ words₀ tail1 tail2 mark1₀ mark2₀ all₀ so-far₀ c₀ first second line words mark1 mark2 all so-far c =
+    TailOf m1 tail1 × TailOf m2 tail2 × (length mark1 ≡ 256) × (length mark2 ≡ 256)
     × Turning m1 m2 (state first₀ second₀ line₀ words₀ so-far₀) (state first second line words so-far) mark1 mark2 (rowHas all) c
 
 abbrev μ-loop : tie.MeasureT-loop
-μ-loop m1 m2 first₀ second₀ line₀ words₀ mark1₀ mark2₀ all₀ so-far₀ c₀ first second line words mark1 mark2 all so-far c =
+μ-loop m1 m2 first₀ second₀ line₀ words₀ tail1 tail2 mark1₀ mark2₀ all₀ so-far₀ c₀ first second line words mark1 mark2 all so-far c =
     256 * (128 - so-far .count) + (128 - c)
 
 -- the tables as they come, and at the loop's head
@@ -32,7 +33,7 @@ abbrev present : tie.At-loop Inv-loop μ-loop → State
 present c = state (c .loop .first) (c .loop .second) (c .loop .line) (c .loop .words) (c .loop .so-far)
 
 abbrev start : tie.At-loop Inv-loop μ-loop → tie.Start Inv-loop μ-loop
-start c = c .before .before .before .before .before .before .before .before
+start c = c .before .before .before .before .before .before .before .before .before .before
 
 fits : (c : tie.Start Inv-loop μ-loop) → c .args .stand .count ≤ 128
 fits c = blocks-fit (c .args .m1 .now) (c .args .m2 .now) 5 (entry c) (c .pre)
@@ -40,7 +41,7 @@ fits c = blocks-fit (c .args .m1 .now) (c .args .m2 .now) 5 (entry c) (c .pre)
 few : (c : tie.At-loop Inv-loop μ-loop) → (c .loop .so-far .count ≤ 128) × (c .loop .so-far .lines + 5 ≤ 912)
 few c =
     let a = start c .args in
-    (blocks-fit (a .m1 .now) (a .m2 .now) 5 (present c) (c .loop .inv .2 .staged), lines-fit (a .m1 .now) (a .m2 .now) 5 (present c) (c .loop .inv .2 .staged))
+    (blocks-fit (a .m1 .now) (a .m2 .now) 5 (present c) (c .loop .inv .4 .staged), lines-fit (a .m1 .now) (a .m2 .now) 5 (present c) (c .loop .inv .4 .staged))
 
 -- what the splitter tells of the block
 tells : (c : tie.After-splitter Inv-loop μ-loop) → let at = c .before .before .before .before .before .before .before .before .before in let a = start at .args in
@@ -57,7 +58,7 @@ mark c n =
     let at = c .before .before .before .before .before .before .before .before .before in
     let s = start at in
     let a = s .args in
-    let m = mark-in (a .m1 .now) (a .m2 .now) (entry s) (present at) (at .loop .mark1) (at .loop .mark2) (rowHas (at .loop .all)) (at .loop .c) (at .loop .inv .2) (c .before .before .before .before .before .before .before .if1 .taken) (c .splitter .result) (tells c) n in
+    let m = mark-in (a .m1 .now) (a .m2 .now) (entry s) (present at) (at .loop .mark1) (at .loop .mark2) (rowHas (at .loop .all)) (at .loop .c) (at .loop .inv .4) (c .before .before .before .before .before .before .before .if1 .taken) (c .splitter .result) (tells c) n in
     (m .0, m .2)
 
 room : (w : tie.After-write-next Inv-loop μ-loop) → Room (written (present (w .before .before .before .before .before .before .before .before .before .before .before .before .before)) (w .write-next .last .0)) (w .before .before .before .before .before .before .before .before .before .before .before .before .before .loop .c)
@@ -66,20 +67,28 @@ room w =
     let at = c .before .before .before .before .before .before .before .before .before in
     let s = start at in
     let a = s .args in
-    turning-room (a .m1 .now) (a .m2 .now) (entry s) (present at) (at .loop .mark1) (at .loop .mark2) (rowHas (at .loop .all)) (at .loop .c) (at .loop .inv .2) (c .before .before .before .before .before .before .before .if1 .taken) (c .splitter .result) (tells c) (w .before .before .before .if2 .left) (w .write-next .last .0) (w .write-next .ensures)
+    turning-room (a .m1 .now) (a .m2 .now) (entry s) (present at) (at .loop .mark1) (at .loop .mark2) (rowHas (at .loop .all)) (at .loop .c) (at .loop .inv .4) (c .before .before .before .before .before .before .before .if1 .taken) (c .splitter .result) (tells c) (w .before .before .before .if2 .left) (w .write-next .last .0) (w .write-next .ensures)
+
+shared-tail-requires : tie.Need-shared-tail-requires Inv-loop μ-loop
+shared-tail-requires c κs = c .before .before .pre .accepted₁
+
+shared-tail-requires-2 : tie.Need-shared-tail-requires-2 Inv-loop μ-loop
+shared-tail-requires-2 c κs = c .before .before .before .pre .accepted₂
 
 marks-requires : tie.Need-marks-requires Inv-loop μ-loop
-marks-requires c κs = omega (arith, fits (c .before .before .before))
+marks-requires c κs = omega (arith, fits (c .before .before .before .before .before))
 
 marks-requires-2 : tie.Need-marks-requires-2 Inv-loop μ-loop
-marks-requires-2 c κs = omega (arith, fits (c .before .before .before .before .before))
+marks-requires-2 c κs = omega (arith, fits (c .before .before .before .before .before .before .before))
 
 node-row-requires : tie.Need-node-row-requires Inv-loop μ-loop
 node-row-requires c κs = search needs
 
 loop-holds : tie.Need-loop-holds Inv-loop μ-loop
 loop-holds c =
-    let s = c .before .before .before .before .before .before .before in (
+    let s = c .before .before .before .before .before .before .before .before .before in (
+      c .before .before .before .before .before .before .shared-tail .ensures,
+      c .before .before .before .before .before .shared-tail2 .ensures,
       search needs,
       search needs,
       turning-none (s .args .m1 .now) (s .args .m2 .now) (entry s) (s .pre) (c .before .before .before .marks .result) (c .before .marks2 .result) (rowHas (c .node-row .result))
@@ -104,9 +113,10 @@ splitter-requires c κs =
     let s = start at in
     let l = c .before .before .before .before .load in
     let k = c .before .before .load2 in
-    marks-in (s .args .m1 .now) (s .args .m2 .now) (entry s) (present at) (at .loop .mark1) (at .loop .mark2) (rowHas (at .loop .all)) (at .loop .c) (at .loop .inv .2)
+    let in-all = marks-in (s .args .m1 .now) (s .args .m2 .now) (entry s) (present at) (at .loop .mark1) (at .loop .mark2) (rowHas (at .loop .all)) (at .loop .c) (at .loop .inv .4)
     (c .before .before .before .before .before .before .if1 .taken) (rowHas (l .result)) (rowHas (k .result)) (λ s. loaded (at .loop .first) (l .result) (at .loop .c) (at .loop .c) s (l .ensures) refl)
-    (λ s. loaded (at .loop .second) (k .result) (at .loop .c) (at .loop .c) s (k .ensures) refl)
+    (λ s. loaded (at .loop .second) (k .result) (at .loop .c) (at .loop .c) s (k .ensures) refl) in
+    (in-all .0, in-all .1, at .loop .inv .0, at .loop .inv .1)
 
 add-c : tie.Need-add-c Inv-loop μ-loop
 add-c c = omega (arith, few (c .before .before .before .before .before .before .before .before .before .before), c .before .before .before .before .before .before .before .before .if1 .taken)
@@ -120,7 +130,7 @@ loop-again t =
     let at = c .before .before .before .before .before .before .before .before .before in
     let s = start at in
     let a = s .args in
-    (at .loop .inv .0, at .loop .inv .1, turning-on (a .m1 .now) (a .m2 .now) (entry s) (present at) (at .loop .mark1) (at .loop .mark2) (rowHas (at .loop .all)) (at .loop .c) (at .loop .inv .2) (c .before .before .before .before .before .before .before .if1 .taken) (c .splitter .result) (tells c) (t .if2 .taken))
+    (at .loop .inv .0, at .loop .inv .1, at .loop .inv .2, at .loop .inv .3, turning-on (a .m1 .now) (a .m2 .now) (entry s) (present at) (at .loop .mark1) (at .loop .mark2) (rowHas (at .loop .all)) (at .loop .c) (at .loop .inv .4) (c .before .before .before .before .before .before .before .if1 .taken) (c .splitter .result) (tells c) (t .if2 .taken))
 
 cast-write-next : tie.Need-cast-write-next Inv-loop μ-loop
 cast-write-next c = search needs
@@ -132,18 +142,20 @@ mul-write-next : tie.Need-mul-write-next Inv-loop μ-loop
 mul-write-next c = omega (arith, mark (c .before .before) (c .before .if2 .left))
 
 element-copy-out-write-next : tie.Need-element-copy-out-write-next Inv-loop μ-loop
-element-copy-out-write-next c = omega (arith, mark (c .before .before) (c .before .if2 .left), c .before .before .before .before .before .before .before .before .before .before .before .loop .inv .2 .staged .sizeLine)
+element-copy-out-write-next c = omega (arith, mark (c .before .before) (c .before .if2 .left), c .before .before .before .before .before .before .before .before .before .before .before .loop .inv .4 .staged .sizeLine)
 
 write-next-requires : tie.Need-write-next-requires Inv-loop μ-loop
 write-next-requires c κs =
     let at = c .before .before .before .before .before .before .before .before .before .before .before .before in
-    (omega (arith, few at), at .loop .inv .2 .staged .holds .size)
+    (omega (arith, few at), at .loop .inv .4 .staged .holds .size)
 
 sub-by-next : tie.Need-sub-by-next Inv-loop μ-loop
 sub-by-next c = omega (arith, mark (c .before .before .before .before .before .before .before .before) (c .before .before .before .before .before .before .before .if2 .left))
 
 by-next-requires : tie.Need-by-next-requires Inv-loop μ-loop
-by-next-requires c κs = (omega (arith, mark (c .before .before .before .before .before .before .before .before) (c .before .before .before .before .before .before .before .if2 .left)), room (c .before .before .before .before))
+by-next-requires c κs =
+    let at = c .before .before .before .before .before .before .before .before .before .before .before .before .before .before .before .before .before .loop in
+    (omega (arith, mark (c .before .before .before .before .before .before .before .before) (c .before .before .before .before .before .before .before .if2 .left)), room (c .before .before .before .before), at .inv .0, at .inv .1)
 
 sub-mark-block : tie.Need-sub-mark-block Inv-loop μ-loop
 sub-mark-block c = omega (arith, c .before .before .before .before .before .by-next .ensures .count)
@@ -151,7 +163,7 @@ sub-mark-block c = omega (arith, c .before .before .before .before .before .by-n
 mark-block-requires : tie.Need-mark-block-requires Inv-loop μ-loop
 mark-block-requires c κs =
     let at = c .before .before .before .before .before .before .before .before .before .before .before .before .before .before .before .before .before .before .before .before .before .before .before .loop in
-    (omega (arith, c .before .before .before .before .before .by-next .ensures .count, room (c .before .before .before .before .before .before .before .before .before .before) .count), at .inv .0, at .inv .1)
+    (omega (arith, c .before .before .before .before .before .by-next .ensures .count, room (c .before .before .before .before .before .before .before .before .before .before) .count), at .inv .2, at .inv .3)
 
 with-requires : tie.Need-with-requires Inv-loop μ-loop
 with-requires c κs = search needs
@@ -167,16 +179,18 @@ loop-again-2 l =
     let s = start at in
     let a = s .args in
     let m = l .before .mark-block .ensures in (
+      at .loop .inv .0,
+      at .loop .inv .1,
       m .0 .size,
       m .1 .size,
-      turning-more (a .m1 .now) (a .m2 .now) (entry s) (present at) (at .loop .mark1) (at .loop .mark2) (rowHas (at .loop .all)) (at .loop .c) (at .loop .inv .2) (c .before .before .before .before .before .before .before .if1 .taken) (c .splitter .result) (tells c) (w .before .before .before .if2 .left) (w .write-next .last .0) (w .write-next .ensures) _ _ _ (rowHas (l .with .result)) (l .before .before .before .before .before .before .before .by-next .ensures) (m .0) (m .1) (l .with .ensures),
+      turning-more (a .m1 .now) (a .m2 .now) (entry s) (present at) (at .loop .mark1) (at .loop .mark2) (rowHas (at .loop .all)) (at .loop .c) (at .loop .inv .4) (c .before .before .before .before .before .before .before .if1 .taken) (c .splitter .result) (tells c) (w .before .before .before .if2 .left) (w .write-next .last .0) (w .write-next .ensures) _ _ _ (rowHas (l .with .result)) (l .before .before .before .before .before .before .before .by-next .ensures) (m .0) (m .1) (l .with .ensures),
     )
 
 returns : tie.Need-returns Inv-loop μ-loop
 returns c =
     let at = c .before .before in
     let s = start at in
-    turning-end (s .args .m1 .now) (s .args .m2 .now) (entry s) (present at) (at .loop .mark1) (at .loop .mark2) (rowHas (at .loop .all)) (at .loop .c) (at .loop .inv .2) (c .if1 .left)
+    turning-end (s .args .m1 .now) (s .args .m2 .now) (entry s) (present at) (at .loop .mark1) (at .loop .mark2) (rowHas (at .loop .all)) (at .loop .c) (at .loop .inv .4) (c .if1 .left)
 
 pub turn-spec : {M : Type 1} → statement M
 turn-spec =
@@ -184,6 +198,8 @@ turn-spec =
     (tie.spec
     Inv-loop
     μ-loop
+    shared-tail-requires
+    shared-tail-requires-2
     marks-requires
     marks-requires-2
     node-row-requires

@@ -10,10 +10,10 @@ use Rattle.comparison.proofs.signatures.leading.Statement.{statement}
 use Rattle.comparison.proofs.signatures.leading.Tie as tie
 
 abbrev Inv-loop : tie.InvT-loop
-Inv-loop m into out₀ left₀ out left = Sorted (λ s. T (not (leadsInto m (rowHas into) s))) (rowHas left₀) (rowHas left) (rowHas out)
+Inv-loop m into tail out₀ left₀ out left = Sorted (λ s. T (not (leadsInto m (rowHas into) s))) (rowHas left₀) (rowHas left) (rowHas out)
 
 abbrev μ-loop : tie.MeasureT-loop
-μ-loop m into out₀ left₀ out left = tally 128 (rowHas left)
+μ-loop m into tail out₀ left₀ out left = tally 128 (rowHas left)
 
 empty-requires : tie.Need-empty-requires Inv-loop μ-loop
 empty-requires c κs = search needs

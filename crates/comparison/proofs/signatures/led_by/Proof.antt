@@ -13,9 +13,10 @@ last-requires c κs = search needs
 
 marks-into-requires : tie.Need-marks-into-requires
 unfolding MarksIn
-marks-into-requires c κs e t =
+marks-into-requires c κs =
     let f = c .before .last in
-    c .before .before .before .before .pre .0 (f .result) e (one-left _ _ (f .ensures) (c .if1 .taken)) t
+    let pre = c .before .before .before .before .pre in
+    (λ e t. pre .0 (f .result) e (one-left _ _ (f .ensures) (c .if1 .taken)) t, pre .2)
 
 without-requires : tie.Need-without-requires
 without-requires c κs = search needs
@@ -32,9 +33,10 @@ last-requires-2 c κs = search needs
 
 marks-into-requires-2 : tie.Need-marks-into-requires-2
 unfolding MarksIn
-marks-into-requires-2 c κs e t =
+marks-into-requires-2 c κs =
     let f = c .before .last2 in
-    c .before .before .before .before .before .before .pre .1 (f .result) e (one-left _ _ (f .ensures) (c .if2 .taken)) t
+    let pre = c .before .before .before .before .before .before .pre in
+    (λ e t. pre .1 (f .result) e (one-left _ _ (f .ensures) (c .if2 .taken)) t, pre .3)
 
 without-requires-2 : tie.Need-without-requires-2
 without-requires-2 c κs = search needs

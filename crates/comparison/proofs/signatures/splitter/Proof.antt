@@ -20,7 +20,9 @@ led-by-requires c κs = search needs
 
 unlike-requires : tie.Need-unlike-requires
 unfolding MarksIn
-unlike-requires c κs s e i x = c .before .before .before .before .before .pre .0 s e (c .led-by .ensures .fewer₁ s i) x
+unlike-requires c κs =
+    let pre = c .before .before .before .before .before .pre in
+    (λ s e i x. pre .0 s e (c .led-by .ensures .fewer₁ s i) x, pre .2)
 
 returns-2 : tie.Need-returns-2
 returns-2 c m₁ m₂ d e₁ e₂ =
@@ -32,7 +34,9 @@ returns-2 c m₁ m₂ d e₁ e₂ =
 
 unlike-requires-2 : tie.Need-unlike-requires-2
 unfolding MarksIn
-unlike-requires-2 c κs s e i x = c .before .before .before .before .before .before .before .pre .1 s e (c .before .before .led-by .ensures .fewer₂ s i) x
+unlike-requires-2 c κs =
+    let pre = c .before .before .before .before .before .before .before .pre in
+    (λ s e i x. pre .1 s e (c .before .before .led-by .ensures .fewer₂ s i) x, pre .3)
 
 returns-3 : tie.Need-returns-3
 returns-3 c m₁ m₂ d e₁ e₂ =

@@ -9,10 +9,10 @@ use Rattle.comparison.proofs.signatures.unlike.Statement.{statement}
 use Rattle.comparison.proofs.signatures.unlike.Tie as tie
 
 abbrev Inv-loop : tie.InvT-loop
-Inv-loop m mark all l left₀ left = Liked m mark (rowHas left₀) (rowHas l) (rowHas left)
+Inv-loop m mark all l tail left₀ left = Liked m mark (rowHas left₀) (rowHas l) (rowHas left)
 
 abbrev μ-loop : tie.MeasureT-loop
-μ-loop m mark all l left₀ left = tally 128 (rowHas left)
+μ-loop m mark all l tail left₀ left = tally 128 (rowHas left)
 
 loop-holds : tie.Need-loop-holds Inv-loop μ-loop
 loop-holds c = liked-none _ _ _ _
@@ -25,9 +25,10 @@ returns c = liked-end _ _ _ _ _ (c .before .before .loop .inv) (none-left _ _ (c
 
 marks-into-requires : tie.Need-marks-into-requires Inv-loop μ-loop
 unfolding MarksIn
-marks-into-requires c κs e t =
+marks-into-requires c κs =
     let f = c .before .last in
-    c .before .before .before .before .pre (f .result) e (c .before .before .loop .inv .fewer (f .result) (one-left _ _ (f .ensures) (c .if1 .left))) t
+    let pre = c .before .before .before .before .pre in
+    (λ e t. pre .0 (f .result) e (c .before .before .loop .inv .fewer (f .result) (one-left _ _ (f .ensures) (c .if1 .left))) t, pre .1)
 
 apart-requires : tie.Need-apart-requires Inv-loop μ-loop
 apart-requires c κs = search needs

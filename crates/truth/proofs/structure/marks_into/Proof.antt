@@ -39,7 +39,7 @@ returns c e =
     let d = c .before .before .difference .result in
     let none = none-passes (rowHas d) (held-in (d .low) (d .high)) (sym (c .before .is-empty .ensures) ∙ c .if1 .taken) in
     noted-is (a .m .now) (a .mark .now) (a .s) _ (c .before .before .before .before .successor-row .ensures) (rowHas (at .left)) (at .out) (at .inv) e
-    (λ t. rest-in (rowHas (a .all) e) (rowHas (at .out) e) (start .pre e t) (λ x. none e (rw (c .before .before .difference .ensures e) x)))
+    (λ t. rest-in (rowHas (a .all) e) (rowHas (at .out) e) (start .pre .0 e t) (λ x. none e (rw (c .before .before .difference .ensures e) x)))
 
 first-requires : tie.Need-first-requires Inv-loop μ-loop
 first-requires c κs = search needs

@@ -1,5 +1,6 @@
 -- `successors` meets its contract. The invariant: the first s rows have the successors of the nodes 1 to s. The measure is the nodes left.
 use borrow.Author.Needs.{needs}
+use mathlib.Core.Logic.{inl}
 use borrow.Author.Tests.{ltb-false}
 use mathlib.Core.Bool.{Bool, _&&_}
 use mathlib.Core.Path.{_≡_}
@@ -31,8 +32,11 @@ loop-holds c = filled-none (Next (c .before .before .args .m .now)) _ (search ne
 add-successor-row : tie.Need-add-successor-row Inv-loop μ-loop
 add-successor-row c = omega arith
 
+no-tail-requires : tie.Need-no-tail-requires Inv-loop μ-loop
+no-tail-requires c κs = search needs
+
 successor-row-requires : tie.Need-successor-row-requires Inv-loop μ-loop
-successor-row-requires c κs = omega arith
+successor-row-requires c κs = inl (c .no-tail .ensures)
 
 cast-store : tie.Need-cast-store Inv-loop μ-loop
 cast-store c = omega arith
@@ -48,8 +52,8 @@ loop-less c = omega arith
 
 loop-again : tie.Need-loop-again Inv-loop μ-loop
 loop-again c =
-    let a = c .before .before .before .before .before .before .before .before .args in
-    let at = c .before .before .before .before .before .loop in
+    let a = c .before .before .before .before .before .before .before .before .before .args in
+    let at = c .before .before .before .before .before .before .loop in
     filled-more (Next (a .m .now)) (at .out) _ (at .s) _ _ (at .inv) (search needs) (c .store .ensures) (c .before .before .successor-row .ensures)
 
 returns : tie.Need-returns Inv-loop μ-loop
@@ -67,6 +71,7 @@ successors-spec =
     nodes-requires
     loop-holds
     add-successor-row
+    no-tail-requires
     successor-row-requires
     cast-store
     store-requires
