@@ -7,7 +7,7 @@ ghost use lib.Dec.{T, eqb, leb};
 ghost use Rattle.sheets.specs.Words.{within};
 ghost use Rattle.sheets.specs.Machine as Machine;
 ghost use Rattle.sheets.specs.Records.{recordWord};
-ghost use Rattle.sheets.specs.Gathered.{records, Leaves, Until};
+ghost use Rattle.sheets.specs.Gathered.{records, Remaining, Until};
 ghost use Rattle.truth.specs.Rows.{rowHas, rowsHas, leadsInto, marksInto};
 ghost use Rattle.truth.specs.Targets.{TargetsTaken, TailMet, TailOf, chainLeads};
 ghost use Rattle.truth.specs.Pairs.{Before};
@@ -92,7 +92,7 @@ fn with_target(a: Targets, s: Step) -> Targets
 
 // How many records may still be read: none after the tail was met.
 fn targets_left(a: Targets, left: u16, s: Step) -> u16
-    ensures { λ r. ⌜ Leaves TailMet a left s r ⌝ }
+    ensures { λ r. ⌜ Remaining TailMet a left s r ⌝ }
 {
     if a.met {
         return 0;
