@@ -15,7 +15,7 @@ use Rattle.sheets.specs.Rules.{most, fits, lent, automata, states, autom
 use Rattle.sheets.specs.Gathered.{Listed}
 use Rattle.sheets.specs.Transitions.{Leaves}
 use Rattle.sheets.specs.declared.along.Numbers.{Numbers}
-use Rattle.sheets.specs.declared.along.Leaving.{Leaving}
+use Rattle.sheets.specs.declared.transitions.Leaving.{Leaving}
 use Rattle.sheets.proofs.Tests.{and-left}
 use Rattle.sheets.proofs.Search.{le-or-gt, each-at}
 use Rattle.sheets.proofs.ListedChains.{past-end}
