@@ -86,7 +86,7 @@ pub struct Leaving {
     pub fits: bool,
 }
 
-// One transition more.
+// One transition more. Nothing is required of the accumulator of a walk, so more than 16 positions are passed over here.
 pub fn with_leaving(a: Leaving, s: Step) -> Leaving
     ensures { λ r. ⌜ LeavingTaken a s r ⌝ }
 {
