@@ -4,21 +4,21 @@ use mathlib.Core.Path.{_≡_, refl, sym, _∙_, ap}
 use mathlib.Core.Logic.{⊎-elim}
 use Prim.Native.Nat.{ℕ, zero, suc, _+_, _-_, _^_, _≤_, _<_}
 use native.Mathlib.Omega.{arith}
-use mathlib.Core.List.{List}
-use mathlib.Core.Bool.{Bool, false, not, _&&_}
+use mathlib.Core.List.{List, [], _∷_}
+use mathlib.Core.Bool.{Bool, true, false, not, _&&_, and-assoc}
 use borrow.Author.Tests.{le-leb, lt-leb, ne-eqb}
-use lib.ListN.{length, getD, take}
+use lib.ListN.{length, getD, take, drop}
 use lib.Seq.{length-take-le, getD-take, ext-getD}
 use lib.Dec.{T, leb, eqb, ltb, leb→le}
-use Rattle.sheets.specs.Words.{bit, within, allOf, howMany}
-use Rattle.sheets.specs.Rules.{most, fits, lent, automata, states, automatonWord, variables, initial, statesOf, transitionsOf, mask, transitionsFit, total, automatonFits, q9}
+use Rattle.sheets.specs.Words.{bit, within, allOf, howMany, chain}
+use Rattle.sheets.specs.Rules.{most, fits, lent, automata, states, automatonWord, variables, initial, statesOf, transitionsOf, mask, transitionsFit, automatonFits, q9}
 use Rattle.sheets.specs.Gathered.{Listed}
 use Rattle.sheets.specs.Transitions.{Leaves}
 use Rattle.sheets.specs.declared.along.Numbers.{Numbers}
-use Rattle.sheets.specs.declared.along.Leaving.{Leaving}
+use Rattle.sheets.specs.declared.transitions.Leaving.{Leaving}
 use Rattle.sheets.proofs.Tests.{and-left}
 use Rattle.sheets.proofs.Search.{le-or-gt, each-at}
-use Rattle.sheets.proofs.ListedChains.{past-end}
+use Rattle.sheets.proofs.ListedChains.{past-end, rest-most}
 
 -- ---- valuations: question 13 numbers them from 1, a mask's bits from 0
 
@@ -68,11 +68,44 @@ unfolding variables
 fits-there R x k v all out listed few ev leaves e =
     ap (λ b. out .fits && b) e ∙ leaves .fitting v ∙ rw (ev, listed-all (statesOf R x) all listed few, listed-at (statesOf R x) all listed few k)
 
--- question 13 of the state at position k
-pub total-there : (R : List ℕ) (x k v : ℕ) (all : Numbers) {b : Bool} → Listed (statesOf R x) all → all .count ≤ 16 → v ≡ automatonWord R x 0
-    → b ≡ total R v (transitionsOf R (getD (all .numbers) k 0)) → b ≡ total R (variables R x) (transitionsOf R (getD (statesOf R x) k 0))
-unfolding variables
-total-there R x k v all listed few ev e = e ∙ rw (ev, listed-at (statesOf R x) all listed few k)
+-- ---- a chain that is read 16 records at a time
+
+-- the chain goes on after its record at position k
+chain-after : (f : ℕ) (next : ℕ → ℕ) (x k : ℕ) → k < length (chain f next x) → drop (suc k) (chain f next x) ≡ chain (f - suc k) next (next (getD (chain f next x) k 0))
+unfolding chain
+chain-after zero next x k h = absurd (omega arith)
+chain-after (suc f) next zero k h = absurd (omega arith)
+chain-after (suc f) next (suc x) zero h = let e : suc f - 1 ≡ f = omega arith in rw e
+chain-after (suc f) next (suc x) (suc k) h = let e : suc f - suc (suc k) ≡ f - suc k = omega arith in rw e (chain-after f next (next (suc x)) k (omega arith))
+
+all-split : (p : ℕ → Bool) (n : ℕ) (xs : List ℕ) → allOf xs p ≡ (allOf (take n xs) p && allOf (drop n xs) p)
+unfolding allOf
+all-split p zero xs = refl
+all-split p (suc n) [] = refl
+all-split p (suc n) (x ∷ xs) = ap (λ b. p x && b) (all-split p n xs) ∙ sym (and-assoc (p x) (allOf (take n xs) p) (allOf (drop n xs) p))
+
+module _ (p : ℕ → Bool) (f x : ℕ) (next : ℕ → ℕ) (all : Numbers) (listed : Listed (chain f next x) all) where
+  pub block-last : all .count ≤ 16 → allOf (chain f next x) p ≡ allOf (take (all .count) (all .numbers)) p
+  block-last few = rw (listed-all (chain f next x) all listed few)
+
+  module _ (many : 16 < all .count) where
+    pub block-left : 16 < f
+    block-left = omega (arith, listed .count, rest-most (λ y k. next y) 3 f x)
+
+    block-more : allOf (chain f next x) p ≡ (allOf (take 16 (all .numbers)) p && allOf (chain (f - 16) next (next (getD (all .numbers) 15 0))) p)
+    block-more =
+        let long : 16 < length (chain f next x) = omega (arith, listed .count) in
+        let size : length (take 16 (all .numbers)) ≡ 16 = length-take-le 16 (all .numbers) (omega (arith, listed .room)) in
+        let same : take 16 (all .numbers) ≡ take 16 (chain f next x) =
+        ext-getD 0 (take 16 (all .numbers)) (take 16 (chain f next x)) (size ∙ sym (length-take-le 16 (chain f next x) (omega arith)))
+        (λ i l. let m : i < 16 = omega (arith, size) in getD-take 16 (all .numbers) i 0 m ∙ listed .each i m ∙ sym (getD-take 16 (chain f next x) i 0 m)) in
+        rw (same, listed .each 15 (omega arith), ← (chain-after f next x 15 (omega arith))) (all-split p 16 (chain f next x))
+
+    pub block-fails : {b : Bool} → b ≡ allOf (take 16 (all .numbers)) p → b ≡ false → allOf (chain f next x) p ≡ false
+    block-fails e f = block-more ∙ rw (sym e ∙ f)
+
+    pub block-passes : {b : Bool} {y : ℕ} → b ≡ allOf (take 16 (all .numbers)) p → b ≡ true → y ≡ next (getD (all .numbers) 15 0) → allOf (chain f next x) p ≡ allOf (chain (f - 16) next y) p
+    block-passes e t ey = block-more ∙ rw (sym e ∙ t, ey)
 
 -- the variables that question 9 has bounded
 pub few-variables : (R : List ℕ) (x : ℕ) → T (q9 lent R) → 1 ≤ x → x ≤ automata R → variables R x ≤ 4

@@ -14,11 +14,11 @@ use Rattle.sheets.specs.Words.{bit, indicator, howMany, allOf, anyOf, me
 use Rattle.sheets.specs.Positions.{someBelow, standsAt}
 use Rattle.sheets.specs.Records.{recordWord}
 use Rattle.sheets.specs.Rules.{automata, states, transitions, stateWord, transitionWord, transitionsOf, transitionTarget, mask, distinct, transitionsFit, leads}
-use Rattle.sheets.specs.Gathered.{records, Along, Left, LeavingTaken}
-use Rattle.sheets.specs.Transitions.{Leaves}
+use Rattle.sheets.specs.Gathered.{records, Along}
+use Rattle.sheets.specs.Transitions.{Left, LeavingTaken, Leaves}
 use Rattle.sheets.specs.declared.words.Step.{Step}
 use Rattle.sheets.specs.declared.words.Step.the-variants.{Record}
-use Rattle.sheets.specs.declared.along.Leaving.{Leaving}
+use Rattle.sheets.specs.declared.transitions.Leaving.{Leaving}
 use Rattle.sheets.proofs.Tests.{and-left, and-right, and-both, or-left, or-right, or-cases}
 use Rattle.sheets.proofs.Search.{le-or-gt}
 use Rattle.sheets.proofs.BitLaws.{bit-or, bit-and, bit-none}

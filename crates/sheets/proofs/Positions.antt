@@ -8,8 +8,8 @@ use native.Mathlib.Omega.{arith}
 use mathlib.Core.List.{List, [], _∷_}
 use mathlib.Core.Bool.{Bool, true, false, not, _&&_, _||_, and-true, and-false, or-false, or-assoc}
 use borrow.Author.Tests.{lt-ltb, le-ltb, eq-eqb, ne-eqb}
-use lib.ListN.{length, getD, set}
-use lib.Seq.{getD-set-same, getD-set-other}
+use lib.ListN.{length, getD, set, take}
+use lib.Seq.{length-take-le, getD-take, getD-set-same, getD-set-other}
 use lib.Dec.{T, T-not, not-T, ltb, eqb, eqb→eq, eqb-refl}
 use Rattle.sheets.specs.Words.{bit, allOf, anyOf, member}
 use Rattle.sheets.specs.Positions.{someBelow}
@@ -54,6 +54,14 @@ module _ (p : ℕ → Bool) where
   place-fails [] i l e = absurd (omega arith)
   place-fails (x ∷ xs) zero l e = rw e
   place-fails (x ∷ xs) (suc i) l e = rw (place-fails xs i (omega arith) e) (and-false (p x))
+
+  -- and each of the first n
+  module _ (xs : List ℕ) (n : ℕ) (room : n ≤ length xs) where
+    pub all-taken : ((i : ℕ) → i < n → p (getD xs i 0) ≡ true) → allOf (take n xs) p ≡ true
+    all-taken h = all-places (take n xs) (λ i l. let m : i < n = omega (arith, length-take-le n xs room) in rw (getD-take n xs i 0 m) (h i m))
+
+    pub taken-fails : (i : ℕ) → i < n → p (getD xs i 0) ≡ false → allOf (take n xs) p ≡ false
+    taken-fails i l e = place-fails (take n xs) i (omega (arith, length-take-le n xs room)) (rw (getD-take n xs i 0 l) e)
 
 -- ---- some position passes
 

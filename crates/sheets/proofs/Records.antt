@@ -18,43 +18,9 @@ module _ (read : ℕ → ℕ → ℕ) (w : ℕ) where
   step-record zero n = absurd (n refl)
   step-record (suc x) n = refl
 
-  -- what a record that was handed out says
-  pub record Handed (x n a b y : ℕ) : Type 0 where
-    pub there : 1 ≤ x
-    pub number : n ≡ x
-    pub first : a ≡ read x 0
-    pub second : b ≡ read x 1
-    pub link : y ≡ read x (w - 1)
-
-  pub handed : (x n a b y : ℕ) → stepAt read w x ≡ Record n a b y → Handed x n a b y
-  unfolding stepAt
-  handed zero n a b y e = let z : _≡_ {A = ℕ} 0 1 = cc in absurd (omega arith)
-  handed (suc x) n a b y e = record { there = omega arith; number = cc; first = cc; second = cc; link = cc }
-
   -- the chain from a record on, of which f records may still be read
   abbrev pub rest : ℕ → ℕ → List ℕ
   rest f x = chain f (λ x. read x (w - 1)) x
-
-  pub rest-spent : (f x : ℕ) → f ≤ 0 → rest f x ≡ []
-  unfolding chain
-  rest-spent zero x h = refl
-  rest-spent (suc f) x h = absurd (omega arith)
-
-  pub rest-ended : (f x : ℕ) → stepAt read w x ≡ End → rest f x ≡ []
-  unfolding chain stepAt
-  rest-ended zero x e = refl
-  rest-ended (suc f) zero e = refl
-  rest-ended (suc f) (suc x) e = let z : _≡_ {A = ℕ} 0 1 = cc in absurd (omega arith)
-
-  pub rest-goes : (f x n a b y : ℕ) → 0 < f → stepAt read w x ≡ Record n a b y → rest f x ≡ n ∷ rest (f - 1) y
-  unfolding chain stepAt
-  rest-goes zero x n a b y h e = absurd (omega arith)
-  rest-goes (suc f) zero n a b y h e = let z : _≡_ {A = ℕ} 0 1 = cc in absurd (omega arith)
-  rest-goes (suc f) (suc x) n a b y h e =
-      let d : suc f - 1 ≡ f = omega arith in
-      let k : suc x ≡ n = cc in
-      let l : read (suc x) (w - 1) ≡ y = cc in
-      rw (d, l, k)
 
 -- a record from its words
 pub read-record : (ws : List ℕ) (base w x m l a b y : ℕ) → (x ≡ 0 → ⊥) → m ≡ x - 1 → l ≡ w - 1 → a ≡ word ws (base + w * m)

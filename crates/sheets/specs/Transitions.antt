@@ -1,14 +1,34 @@
--- The transitions out of a state, as questions 12 to 14 and the product of document 002 ask for them: what is gathered of them towards
--- states that stand by position.
+-- The transitions out of a state, gathered towards states that stand by position: one transition more, and what is gathered at the end,
+-- in the terms of questions 12 to 14.
 use mathlib.Core.Path.{_≡_}
-use Prim.Native.Nat.{ℕ, _^_, _<_}
+use Prim.Native.Nat.{ℕ, _^_, _≤_, _<_}
 use mathlib.Core.List.{List}
-use mathlib.Core.Bool.{_&&_}
+use mathlib.Core.Bool.{not, _&&_, _||_}
 use lib.ListN.{getD, take}
+use lib.Bits.{bitOr}
 use lib.Dec.{leb, ltb, eqb}
 use Rattle.sheets.specs.Words.{bit, anyOf, howMany}
+use Rattle.sheets.specs.Positions.{someBelow, standsAt}
 use Rattle.sheets.specs.Rules.{transitionsOf, transitionTarget, mask, transitionsFit, leads}
-use Rattle.sheets.specs.declared.along.Leaving.{Leaving}
+use Rattle.sheets.specs.declared.words.Step.{Step}
+use Rattle.sheets.specs.declared.words.Step.the-variants.{Record, End}
+use Rattle.sheets.specs.declared.transitions.Leaving.{Leaving}
+
+-- a transition with the target t and the mask m more, out of a state
+pub record Left (a : Leaving) (t m : ℕ) (r : Leaving) : Type 0 where
+  pub states : r .states ≡ a .states
+  pub n : r .n ≡ a .n
+  pub masks : (k w : ℕ) → k < a .n → bit (getD (r .masks) k 0) w ≡ (bit (getD (a .masks) k 0) w || (bit m w && eqb t (getD (a .states) k 0)))
+  pub met : (k : ℕ) → bit (r .met) k ≡ (bit (a .met) k || standsAt (a .states) (a .n) t k)
+  pub led : (k : ℕ) → bit (r .led) k ≡ (bit (a .led) k || (not (eqb m 0) && standsAt (a .states) (a .n) t k))
+  pub once : r .once ≡ bitOr (a .once) m
+  pub twice : (w : ℕ) → bit (r .twice) w ≡ (bit (a .twice) w || (bit (a .once) w && bit m w))
+  pub fits : r .fits ≡ (a .fits && (someBelow 16 (standsAt (a .states) (a .n) t) && not (someBelow 16 (λ k. standsAt (a .states) (a .n) t k && bit (a .met) k))))
+
+-- one transition more, where the positions are at most 16; the end changes nothing
+abbrev pub LeavingTaken : Leaving → Step → Leaving → Type 0
+LeavingTaken a (Record number first second next) r = a .n ≤ 16 → Left a first second r
+LeavingTaken a End r = r ≡ a
 
 -- What a has of the transitions out of state q, towards the first n of the states.
 pub record Leaves (R states : List ℕ) (n q : ℕ) (a : Leaving) : Type 0 where

@@ -1,13 +1,12 @@
 -- `q13` meets its contract. The invariant: each automaton passed is total. The measure is the number of those left.
 use borrow.Author.Needs.{needs}
 use mathlib.Core.Path.{sym, _∙_}
-use Prim.Native.Nat.{_+_, _-_, _≤_}
+use Prim.Native.Nat.{_-_}
 use native.Mathlib.Omega.{arith}
 use borrow.Author.Tests.{not-true, not-false}
 use Rattle.sheets.specs.Rules.{automata, automatonTotal, q13}
 use Rattle.sheets.proofs.EachLoops.{Tested, each-starts, each-goes, each-stops, each-ends}
 use Rattle.sheets.proofs.AutomatonLoops.{few-variables}
-use Rattle.sheets.proofs.ReachedPositions.{few-states}
 use Rattle.sheets.proofs.automata.q13.Statement.{statement}
 use Rattle.sheets.proofs.automata.q13.Tie as tie
 
@@ -27,10 +26,7 @@ add-x : tie.Need-add-x Inv-loop μ-loop
 add-x c = search needs
 
 automaton-total-requires : tie.Need-automaton-total-requires Inv-loop μ-loop
-automaton-total-requires c κs =
-    let start = c .before .before .before .before in
-    let most : c .before .loop .x + 1 ≤ automata (start .args .r .now) = omega (arith, c .before .before .automata .ensures) in
-    (few-variables _ _ (start .pre .0) (omega arith) most, few-states (start .args .r .now) (c .before .loop .x + 1) (start .pre .1) (omega arith) most)
+automaton-total-requires c κs = few-variables _ _ (c .before .before .before .before .pre) (omega arith) (omega (arith, c .before .before .automata .ensures))
 
 returns : tie.Need-returns Inv-loop μ-loop
 unfolding q13

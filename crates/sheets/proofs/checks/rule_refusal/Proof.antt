@@ -20,10 +20,7 @@ returns-2 : tie.Need-returns-2
 returns-2 c = by-twelve (c .before .before .before .before .before .args .r .now) _ (c .before .before .before .records-refusal .ensures) (c .before .before .if1 .left) (sym (c .before .q12 .ensures) ∙ not-true _ (c .if2 .taken))
 
 q13-requires : tie.Need-q13-requires
-q13-requires c κs = (
-  nine (c .before .before .before .before .before .args .r .now) _ (c .before .before .before .records-refusal .ensures) (c .before .before .if1 .left),
-  subst⁻¹ T (sym (c .before .q12 .ensures) ∙ not-false _ (c .if2 .left)) tt,
-)
+q13-requires c κs = nine (c .before .before .before .before .before .args .r .now) _ (c .before .before .before .records-refusal .ensures) (c .before .before .if1 .left)
 
 returns-3 : tie.Need-returns-3
 returns-3 c = by-thirteen (c .before .before .before .before .before .before .before .args .r .now) _ (c .before .before .before .before .before .records-refusal .ensures) (c .before .before .before .before .if1 .left) (sym (c .before .before .before .q12 .ensures) ∙ not-false _ (c .before .before .if2 .left)) (sym (c .before .q13 .ensures) ∙ not-true _ (c .if3 .taken))

@@ -3,8 +3,8 @@ use mathlib.Core.Path.{_∙_}
 use Prim.Native.Nat.{_*_, _^_, _%_}
 use Rattle.sheets.proofs.BitLaws.{bit-or, bit-power, one-shifted}
 use borrow.Author.Needs.{needs}
-use Rattle.sheets.proofs.along.with.Statement.{statement}
-use Rattle.sheets.proofs.along.with.Tie as tie
+use Rattle.sheets.proofs.transitions.with.Statement.{statement}
+use Rattle.sheets.proofs.transitions.with.Tie as tie
 
 shl-result : tie.Need-shl-result
 shl-result c = search needs

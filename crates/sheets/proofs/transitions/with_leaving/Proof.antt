@@ -1,13 +1,13 @@
 -- `with_leaving` meets its contract: the positions of the target, and what each field has with them.
 use native.Mathlib.Omega.{arith}
 use mathlib.Core.Path.{refl, sym, subst}
-use Rattle.sheets.specs.Gathered.{LeavingTaken}
+use Rattle.sheets.specs.Transitions.{LeavingTaken}
 use Rattle.sheets.specs.declared.words.Step.{Step}
 use Rattle.sheets.proofs.LeavingChains.{left-wide, left-more}
 use borrow.Author.Needs.{needs}
 use borrow.Author.Needs.{needs}
-use Rattle.sheets.proofs.along.with_leaving.Statement.{statement}
-use Rattle.sheets.proofs.along.with_leaving.Tie as tie
+use Rattle.sheets.proofs.transitions.with_leaving.Statement.{statement}
+use Rattle.sheets.proofs.transitions.with_leaving.Tie as tie
 
 enum-known-s : tie.Need-enum-known-s
 enum-known-s c = search needs

@@ -1,7 +1,7 @@
 -- `some` meets its contract: a word is not 0 where it has some bit.
 use Rattle.sheets.proofs.Positions.{some-bit}
-use Rattle.sheets.proofs.along.some.Statement.{statement}
-use Rattle.sheets.proofs.along.some.Tie as tie
+use Rattle.sheets.proofs.transitions.some.Statement.{statement}
+use Rattle.sheets.proofs.transitions.some.Tie as tie
 
 returns : tie.Need-returns
 returns c = some-bit 16 (c .args .set) (c .fits .set .fits)

@@ -9,8 +9,8 @@ use lib.Seq.{getD-set-other}
 use Rattle.sheets.proofs.Positions.{stored}
 use Rattle.sheets.proofs.LeavingChains.{Masked, masked-here, masked-not}
 use borrow.Author.Needs.{needs}
-use Rattle.sheets.proofs.along.with_mask.Statement.{statement}
-use Rattle.sheets.proofs.along.with_mask.Tie as tie
+use Rattle.sheets.proofs.transitions.with_mask.Statement.{statement}
+use Rattle.sheets.proofs.transitions.with_mask.Tie as tie
 
 abbrev Inv-loop : tie.InvT-loop
 Inv-loop n set mask masks₀ k₀ masks k =

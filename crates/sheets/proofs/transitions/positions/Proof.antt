@@ -11,8 +11,8 @@ use Rattle.sheets.specs.Words.{bit}
 use Rattle.sheets.proofs.BitLaws.{bit-none}
 use Rattle.sheets.proofs.Positions.{upTo, upTo-none, upTo-yes, upTo-no}
 use borrow.Author.Needs.{needs}
-use Rattle.sheets.proofs.along.positions.Statement.{statement}
-use Rattle.sheets.proofs.along.positions.Tie as tie
+use Rattle.sheets.proofs.transitions.positions.Statement.{statement}
+use Rattle.sheets.proofs.transitions.positions.Tie as tie
 
 abbrev test : List ℕ → ℕ → ℕ → Bool
 test states t k = eqb t (getD states k 0)

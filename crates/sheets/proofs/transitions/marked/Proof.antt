@@ -1,7 +1,7 @@
 use borrow.Author.Tests.{eq-eqb, ne-eqb}
 use Rattle.sheets.proofs.BitLaws.{bit-none}
-use Rattle.sheets.proofs.along.marked.Statement.{statement}
-use Rattle.sheets.proofs.along.marked.Tie as tie
+use Rattle.sheets.proofs.transitions.marked.Statement.{statement}
+use Rattle.sheets.proofs.transitions.marked.Tie as tie
 
 returns : tie.Need-returns
 returns c k = rw (eq-eqb (c .before .args .mask) 0 (c .if1 .taken)) (bit-none k)

@@ -1,7 +1,7 @@
 use borrow.Author.Needs.{needs}
 use mathlib.Core.Logic.{inl}
-use Rattle.sheets.proofs.along.leaving_left.Statement.{statement}
-use Rattle.sheets.proofs.along.leaving_left.Tie as tie
+use Rattle.sheets.proofs.transitions.leaving_left.Statement.{statement}
+use Rattle.sheets.proofs.transitions.leaving_left.Tie as tie
 
 left-after-requires : tie.Need-left-after-requires
 left-after-requires c κs = search needs
