@@ -9,7 +9,7 @@ ghost use Rattle.sheets.specs.Machine as Machine;
 ghost use Rattle.sheets.specs.Records.{recordWord};
 ghost use Rattle.sheets.specs.Gathered.{records, Remaining, Until};
 ghost use Rattle.truth.specs.Rows.{rowHas, rowsHas, leadsInto, marksInto};
-ghost use Rattle.truth.specs.Targets.{TargetsTaken, TailMet, TailOf, chainLeads};
+ghost use Rattle.truth.specs.Targets.{TargetsTaken, Stopped, TailOf, chainLeads};
 ghost use Rattle.truth.specs.Pairs.{Before};
 use crate::rows::Row;
 use crate::tables::load;
@@ -19,88 +19,73 @@ use sheets::machine;
 use sheets::walker;
 use sheets::words::Step;
 
-// A tail that chains share: the nodes that the chain from record `at` on leads to; 0 where there is none.
+// A tail that chains share: the nodes that the chain from record `at` on leads to. From record 0 on there is nothing.
 pub struct Tail {
-    pub at: u16,
     pub row: Row,
+    pub at: u64,
 }
 
-// What is gathered of a chain: the targets so far, the link of the last record, a tail whose targets are known, and whether it was met.
+// What is gathered of a chain: the targets so far, the record at which the walk is left, and the link of the last record. The fields leave
+// no gap between them, which would be copied at each step.
 struct Targets {
     row: Row,
-    link: u16,
-    tail: Tail,
-    met: bool,
+    stop: u64,
+    link: u64,
 }
 
 pub fn no_tail() -> Tail
-    ensures { λ r. ⌜ r .at ≡ 0 ⌝ }
+    ensures { λ r. ⌜ (r .at ≡ 0) × ((t : ℕ) → rowHas (r .row) t ≡ false) ⌝ }
 {
-    Tail {
-        at: 0,
-        row: Row::EMPTY,
-    }
+    let row = Row::empty();
+    Tail { row, at: 0 }
 }
 
-// No target yet.
-fn no_targets(tail: Tail) -> Targets
-    ensures { λ r. ⌜ (r .tail ≡ tail) × ((r .met ≡ false) × ((t : ℕ) → rowHas (r .row) t ≡ false)) ⌝ }
+// No target yet, and no link that is one.
+fn no_targets(stop: u64) -> Targets
+    ensures { λ r. ⌜ (r .stop ≡ stop) × ((r .link ≡ 65536) × ((t : ℕ) → rowHas (r .row) t ≡ false)) ⌝ }
 {
     let row = Row::empty();
     Targets {
         row,
-        link: 0,
-        tail,
-        met: false,
+        stop,
+        link: 65536,
     }
 }
 
-// One record's target more, or at the tail those of the whole tail.
+// One record's target more.
 fn with_target(a: Targets, s: Step) -> Targets
     ensures { λ r. ⌜ TargetsTaken a s r ⌝ }
 {
     match s {
         Step::Record {
-            number,
+            number: _,
             first,
             second: _,
             next,
         } => {
             let row = a.row;
-            let tail = a.tail;
-            if number == tail.at {
-                let rest = tail.row;
-                let all = row.union(rest);
-                return Targets {
-                    row: all,
-                    link: next,
-                    tail,
-                    met: true,
-                };
-            }
             let more = row.with(first);
             Targets {
                 row: more,
-                link: next,
-                tail,
-                met: a.met,
+                stop: a.stop,
+                link: next as u64,
             }
         }
         Step::End => a,
     }
 }
 
-// How many records may still be read: none after the tail was met.
+// How many records may still be read: none where the next is the one at which the walk is left.
 fn targets_left(a: Targets, left: u16, s: Step) -> u16
-    ensures { λ r. ⌜ Remaining TailMet a left s r ⌝ }
+    ensures { λ r. ⌜ Remaining Stopped a left s r ⌝ }
 {
-    if a.met {
+    if a.link == a.stop {
         return 0;
     }
     along::left_after(left, s)
 }
 
-// The targets on a chain more, read by one walker, to the chain's end or to the tail.
+// The targets on a chain more, read by one walker, to the chain's end or to the record at which it is left.
 fn targets_along(
     ws: &[u16],
     base: u32,
@@ -109,7 +94,7 @@ fn targets_along(
     mut left: u16,
     mut a: Targets,
 ) -> Targets
-    ensures { λ r. ⌜ Until TargetsTaken TailMet (records (recordWord (now (ws .entry)) base width) width left first) a r ⌝ }
+    ensures { λ r. ⌜ Until TargetsTaken Stopped (records (recordWord (now (ws .entry)) base width) width left first) a r ⌝ }
 {
     let mut w = walker::new(ws, base, width, first);
     while left > 0 {
@@ -122,7 +107,7 @@ fn targets_along(
 
 // The tail, if record x is one of e; a chain from elsewhere is read to its end.
 fn tail_for(tail: Tail, x: u16, e: u16) -> Tail
-    ensures { λ r. ⌜ (r .at ≡ 0) ⊎ ((r ≡ tail) × (x ≤ e)) ⌝ }
+    ensures { λ r. ⌜ ((r .at ≡ 0) × ((t : ℕ) → rowHas (r .row) t ≡ false)) ⊎ ((r ≡ tail) × (x ≤ e)) ⌝ }
 {
     if x <= e {
         return tail;
@@ -135,11 +120,20 @@ fn chain_row(m: &[u16], x: u16, tail: Tail) -> Row
     requires { ⌜ TailOf (now m) tail ⌝ }
     ensures { λ r. ⌜ ((t : ℕ) → rowHas r t ≡ (within 1 128 t && chainLeads (now (m .entry)) x t)) ⌝ }
 {
+    if x as u64 == tail.at {
+        return tail.row;
+    }
     let n = machine::nodes(m);
     let e = machine::edges(m);
-    let none = no_targets(tail_for(tail, x, e));
-    let all = targets_along(m, 3 + 3 * (n as u32), 2, x, e, none);
-    all.row
+    let known = tail_for(tail, x, e);
+    let none = no_targets(known.at);
+    let found = targets_along(m, 3 + 3 * (n as u32), 2, x, e, none);
+    let row = found.row;
+    if found.link == found.stop {
+        let rest = known.row;
+        return row.union(rest);
+    }
+    row
 }
 
 // The nodes that the edges of node s lead to.
@@ -159,18 +153,18 @@ fn joint(m: &[u16]) -> u16 {
         return 0;
     }
     let share = e / n;
-    let none = no_targets(no_tail());
-    let mut at: u16 = 0;
+    let none = no_targets(0);
+    let mut at: u64 = 0;
     let mut s: u16 = 0;
     while s < n {
         s += 1;
         let first = machine::node_word(m, s, 2);
-        let read = targets_along(m, 3 + 3 * (n as u32), 2, first, share, none);
-        if read.link > at {
-            at = read.link;
+        let found = targets_along(m, 3 + 3 * (n as u32), 2, first, share, none);
+        if found.link > at {
+            at = found.link;
         }
     }
-    at
+    (at % 65536) as u16
 }
 
 // A tail that chains of the machine share, if there is one.
@@ -183,7 +177,7 @@ pub fn shared_tail(m: &[u16]) -> Tail
         return no_tail();
     }
     let row = chain_row(m, at, no_tail());
-    Tail { at, row }
+    Tail { row, at: at as u64 }
 }
 
 // Some edge of node s leads into the row.
