@@ -9,7 +9,9 @@ use mathlib.Core.Bool.{Bool, true, false, not, _&&_, _||_, Bool·not-not}
 use lib.ListN.{length, length-append}
 use lib.Dec.{T}
 use Rattle.truth.specs.Passed.{kripke, nodes, machineRefusal}
-use Rattle.truth.proofs.Passed.{not-is, or-is, sum-iff, edge-stays, intoSet, into-set}
+use Rattle.truth.specs.Rows.{leadsInto}
+use Rattle.truth.proofs.Passed.{not-is, or-is, sum-iff, edge-stays}
+use Rattle.truth.proofs.structure.TargetRows.{leads-into}
 use Rattle.comparison.specs.Lines.{Entry, sig, neg, alt, next, entry, Refers, Downward, split}
 use Rattle.comparison.specs.Blocks.{TrueIn, Exact}
 use Rattle.comparison.proofs.TrueLines.{true-sig, true-neg, true-alt, true-next}
@@ -35,7 +37,7 @@ module _ (M : List ℕ) (ok : machineRefusal M ≡ 0) (a : ℕ) (ls : List Entry
       Iff·trans (true-alt M ok a ls down j l h s lo hi i k e) (Iff·trans (sum-iff (x s lo hi) (y s lo hi)) (or-is (p s) (q s)))
 
   -- some next node is in the set
-  pub exact-next : (i : ℕ) (p : ℕ → Bool) → entry ls j ≡ next i → Exact M ls i p → Exact M ls j (intoSet M p)
+  pub exact-next : (i : ℕ) (p : ℕ → Bool) → entry ls j ≡ next i → Exact M ls i p → Exact M ls j (leadsInto M p)
   unfolding Exact
   exact-next i p e x s lo hi =
       let at = edge-stays M ok s lo hi in
@@ -44,7 +46,7 @@ module _ (M : List ℕ) (ok : machineRefusal M ≡ 0) (a : ℕ) (ls : List Entry
         λ y. (y .0, y .1, x (y .0) (at (y .0) (y .1) .0) (at (y .0) (y .1) .1) .0 (y .2)),
         λ y. (y .0, y .1, x (y .0) (at (y .0) (y .1) .0) (at (y .0) (y .1) .1) .1 (y .2)),
       )
-      (into-set M p s))
+      (leads-into M p s))
 
 -- lines are added
 pub exact-kept : (M : List ℕ) → machineRefusal M ≡ 0 → (a : ℕ) (ls more : List Entry) → Downward a ls → Downward a (ls ++ more)
@@ -59,7 +61,7 @@ module _ (a : ℕ) (ls : List Entry) (down : Downward a ls) (i : ℕ) (l : 1 ≤
   unfolding Refers
   next-down = down-one a ls (next i) down (l, omega arith)
 
-  pub next-added : (M : List ℕ) → machineRefusal M ≡ 0 → (p : ℕ → Bool) → Exact M ls i p → Exact M (ls ++ next i ∷ []) (length ls + 1) (intoSet M p)
+  pub next-added : (M : List ℕ) → machineRefusal M ≡ 0 → (p : ℕ → Bool) → Exact M ls i p → Exact M (ls ++ next i ∷ []) (length ls + 1) (leadsInto M p)
   next-added M ok p e =
       exact-next M ok a (ls ++ next i ∷ []) next-down (length ls + 1) (omega arith) (omega (arith, length-append ls (next i ∷ []))) i p
       (entry-one ls (next i)) (exact-kept M ok a ls (next i ∷ []) down next-down i l h p e)

@@ -21,7 +21,6 @@ pub mod FinerBlocks
 pub mod StagedSplits
 pub mod DividingBlocks
 pub mod Splitters
-pub mod HighestNode
 pub mod MarkedBlocks
 pub mod Surveys
 pub mod TurningBlocks

@@ -8,7 +8,8 @@ use lib.ListN.{getD}
 use lib.Dec.{T, not-T, eqb, eqb→eq, eqb-refl}
 use Rattle.truth.specs.Passed.{nodes, machineRefusal, within}
 use Rattle.truth.specs.Rows.{leadsInto, marksInto}
-use Rattle.truth.proofs.Passed.{and-right, passed, failed, within-in, nodes-sized, edge-stays, intoSet, into-set}
+use Rattle.truth.proofs.Passed.{and-right, passed, failed, within-in, nodes-sized, edge-stays}
+use Rattle.truth.proofs.structure.TargetRows.{leads-into}
 use Rattle.comparison.specs.Blocks.{Members, In, Covers, Disjoint}
 use Rattle.comparison.specs.Signatures.{Marked}
 
@@ -37,22 +38,22 @@ module _ (M : List ℕ) (ok : machineRefusal M ≡ 0) (mem : Members) (n : ℕ) 
       (λ m. rw (b .2, once (b .0) d t (b .1) h (lo, hi, b .3) (lo, hi, m)) (eqb-refl (d + 1))))
 
   module _ (s : ℕ) (lo : 1 ≤ s) (hi : s ≤ nodes M) where
-    pub marks-next : (d : ℕ) → d < n → n ≤ 128 → marksInto M mark s (d + 1) ≡ intoSet M (mem d) s
-    unfolding marksInto leadsInto intoSet
+    pub marks-next : (d : ℕ) → d < n → n ≤ 128 → marksInto M mark s (d + 1) ≡ leadsInto M (mem d) s
+    unfolding marksInto leadsInto
     marks-next d h few =
         rw (passed (within 1 128 (d + 1)) (within-in 1 128 (d + 1) (omega arith) (omega arith)))
-        (same-test (intoSet M (λ t. within 1 128 t && eqb (getD mark t 0) (d + 1)) s) (intoSet M (mem d) s)
-        (λ x. let f = into-set M (λ t. within 1 128 t && eqb (getD mark t 0) (d + 1)) s .1 x in
+        (same-test (leadsInto M (λ t. within 1 128 t && eqb (getD mark t 0) (d + 1)) s) (leadsInto M (mem d) s)
+        (λ x. let f = leads-into M (λ t. within 1 128 t && eqb (getD mark t 0) (d + 1)) s .1 x in
         let r = edge-stays M ok s lo hi (f .0) (f .1) in
-        into-set M (mem d) s .0 (f .0, f .1, rw (mark-test (f .0) (r .0) (r .1) d h) at (f .2)))
-        (λ x. let f = into-set M (mem d) s .1 x in
+        leads-into M (mem d) s .0 (f .0, f .1, rw (mark-test (f .0) (r .0) (r .1) d h) at (f .2)))
+        (λ x. let f = leads-into M (mem d) s .1 x in
         let r = edge-stays M ok s lo hi (f .0) (f .1) in
-        into-set M (λ t. within 1 128 t && eqb (getD mark t 0) (d + 1)) s .0 (f .0, f .1, rw (mark-test (f .0) (r .0) (r .1) d h) (f .2))))
+        leads-into M (λ t. within 1 128 t && eqb (getD mark t 0) (d + 1)) s .0 (f .0, f .1, rw (mark-test (f .0) (r .0) (r .1) d h) (f .2))))
 
     pub marks-high : (e : ℕ) → T (marksInto M mark s e) → (1 ≤ e) × (e ≤ n)
-    unfolding marksInto leadsInto intoSet
+    unfolding marksInto leadsInto
     marks-high e x =
-        let f = into-set M (λ t. within 1 128 t && eqb (getD mark t 0) e) s .1 (and-right (within 1 128 e) (intoSet M (λ t. within 1 128 t && eqb (getD mark t 0) e) s) x) in
+        let f = leads-into M (λ t. within 1 128 t && eqb (getD mark t 0) e) s .1 (and-right (within 1 128 e) (leadsInto M (λ t. within 1 128 t && eqb (getD mark t 0) e) s) x) in
         let r = edge-stays M ok s lo hi (f .0) (f .1) in
         let b = own-mark (f .0) (r .0) (r .1) in
         let q = eqb→eq (getD mark (f .0) 0) e (and-right (within 1 128 (f .0)) (eqb (getD mark (f .0) 0) e) (f .2)) in

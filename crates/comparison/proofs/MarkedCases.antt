@@ -1,16 +1,19 @@
 -- The marked cases (a) to (k) of document 01, as one table and one theorem. Of (a) to (d) it says what holds of the machines, and what
--- comparison answers, in any space that is large enough.
+-- comparison answers, in any space that is large enough; of (e) and (f) where the lines are true, that the sheets are accepted, and what
+-- labelling answers: its rows, kept, count and percent.
 use mathlib.Core.Path.{_≡_, refl}
 use Prim.Native.Nat.{ℕ, _+_, _*_, _≤_}
 use native.Mathlib.Omega.{arith}
 use mathlib.Core.List.{List}
+use mathlib.Core.Bool.{true, false}
 use lib.ListN.{length}
+use lib.Dec.{leb, eqb}
 use Rattle.truth.specs.Passed.{M1, M2, M3, M5, M6, MixedSheet, PartialSheet, SelfLinked, ExtraSignal, nodes, signals, word, machineRefusal, lent, ruleRefusal}
 use Rattle.truth.specs.Truth.{TrueAt}
 use Rattle.truth.specs.Labelling.{percent}
-use Rattle.truth.specs.Worked.{EvenSheet, OneState}
+use Rattle.truth.specs.Worked.{EvenSheet, OneState, Labels}
 use Rattle.truth.proofs.Passed.{machine-cases, rule-cases}
-use Rattle.truth.proofs.MarkedCases.{case-e-true, case-e-false, case-f-true, case-f-false, case-k}
+use Rattle.truth.proofs.MarkedCases.{case-e-true, case-e-false, case-e, case-f-true, case-f-false, case-f-kept, case-f-broken, case-k}
 use Rattle.comparison.specs.Comparison.{Equal}
 use Rattle.comparison.specs.Answers.{CompareAnswer}
 use Rattle.comparison.specs.declared.compare.Answer.{Answer}
@@ -43,9 +46,11 @@ pub record Marked : Type 0 where
   pub b : (Equal M1 M3 → ⊥) × Answers M1 M3 saysUnequal
   pub c : (Equal M5 M6 → ⊥) × Answers M5 M6 saysUnequal
   pub d : Equal M1 M1 × Answers M1 M1 saysEqual
-  pub e : TrueAt lent M3 EvenSheet 2 1 × (TrueAt lent M3 EvenSheet 2 2 → ⊥)
-  pub f-true : (M : List ℕ) → machineRefusal M ≡ 0 → (s : ℕ) → 1 ≤ s → s ≤ nodes M → TrueAt lent M (OneState 1) 1 s
-  pub f-false : (M : List ℕ) → machineRefusal M ≡ 0 → (s : ℕ) → TrueAt lent M (OneState 0) 1 s → ⊥
+  pub e : TrueAt lent M3 EvenSheet 2 1 × (TrueAt lent M3 EvenSheet 2 2 → ⊥) × Labels M3 EvenSheet (λ j s. eqb s 1) true 1 50
+  pub f-true : (M : List ℕ) → machineRefusal M ≡ 0
+      → ((s : ℕ) → 1 ≤ s → s ≤ nodes M → TrueAt lent M (OneState 1) 1 s) × Labels M (OneState 1) (λ j s. leb s (nodes M)) true (nodes M) 100
+  pub f-false : (M : List ℕ) → machineRefusal M ≡ 0
+      → ((s : ℕ) → TrueAt lent M (OneState 0) 1 s → ⊥) × Labels M (OneState 0) (λ j s. false) false 0 0
   pub g : ruleRefusal lent MixedSheet ≡ 14
   pub h : ruleRefusal lent PartialSheet ≡ 13
   pub i : machineRefusal SelfLinked ≡ 5
@@ -61,9 +66,9 @@ marked =
       b = (case-b, says-unequal M1 M3 (m .m1) (m .m3) refl (omega arith) case-b);
       c = (case-c, says-unequal M5 M6 (m .m5) (m .m6) refl (omega arith) case-c);
       d = (case-d, says-equal M1 M1 (m .m1) (m .m1) refl (omega arith) case-d);
-      e = (case-e-true, case-e-false);
-      f-true = case-f-true;
-      f-false = case-f-false;
+      e = (case-e-true, case-e-false, case-e);
+      f-true = λ M ok. (case-f-true M ok, case-f-kept M ok);
+      f-false = λ M ok. (case-f-false M ok, case-f-broken M ok);
       g = rule-cases .case-g;
       h = rule-cases .case-h;
       i = m .case-i;

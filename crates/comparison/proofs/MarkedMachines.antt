@@ -6,7 +6,8 @@ use native.Mathlib.Omega.{arith}
 use mathlib.Core.List.{List, [], _∷_}
 use mathlib.Core.Bool.{Bool, not}
 use Rattle.truth.specs.Passed.{M1, M2, M3, M5, M6, kripke, nodes, signals, edges, nodeWord, edgeWord, signalAt, startFlag, target, edgesOf, word, bit, each, within, anyOf, chain, machineRefusal}
-use Rattle.truth.proofs.Passed.{machine-cases, intoSet}
+use Rattle.truth.specs.Rows.{leadsInto}
+use Rattle.truth.proofs.Passed.{machine-cases}
 use Rattle.comparison.specs.Comparison.{Equal}
 use Rattle.comparison.specs.Lines.{Entry, sig, neg, next, entry, Refers, Downward}
 use Rattle.comparison.specs.Blocks.{Exact}
@@ -59,10 +60,10 @@ every-down = record { few = omega arith; refers = every-refers }
 -- the sets where the last line is true
 module _ (M : List ℕ) (ok : machineRefusal M ≡ 0) where
   abbrev someSet : ℕ → Bool
-  someSet = intoSet M (kripke M .signal 1)
+  someSet = leadsInto M (kripke M .signal 1)
 
   abbrev everySet : ℕ → Bool
-  everySet s = not (intoSet M (λ t. not (intoSet M (kripke M .signal 1) t)) s)
+  everySet s = not (leadsInto M (λ t. not (leadsInto M (kripke M .signal 1) t)) s)
 
   some-exact : Exact M someNext 2 someSet
   unfolding entry
@@ -73,20 +74,20 @@ module _ (M : List ℕ) (ok : machineRefusal M ≡ 0) where
   every-exact : Exact M everyNext 5 everySet
   unfolding entry
   every-exact =
-      exact-neg M ok 2 everyNext every-down 5 (omega arith) (omega arith) 4 (intoSet M (λ t. not (intoSet M (kripke M .signal 1) t))) refl
-      (exact-next M ok 2 everyNext every-down 4 (omega arith) (omega arith) 3 (λ t. not (intoSet M (kripke M .signal 1) t)) refl
-      (exact-neg M ok 2 everyNext every-down 3 (omega arith) (omega arith) 2 (intoSet M (kripke M .signal 1)) refl
+      exact-neg M ok 2 everyNext every-down 5 (omega arith) (omega arith) 4 (leadsInto M (λ t. not (leadsInto M (kripke M .signal 1) t))) refl
+      (exact-next M ok 2 everyNext every-down 4 (omega arith) (omega arith) 3 (λ t. not (leadsInto M (kripke M .signal 1) t)) refl
+      (exact-neg M ok 2 everyNext every-down 3 (omega arith) (omega arith) 2 (leadsInto M (kripke M .signal 1)) refl
       (exact-next M ok 2 everyNext every-down 2 (omega arith) (omega arith) 1 (kripke M .signal 1) refl
       (exact-sig M ok 2 everyNext every-down 1 (omega arith) (omega arith) 1 refl))))
 
 pub case-b : Equal M1 M3 → ⊥
-unfolding kripke nodes signals edges edgesOf target edgeWord signalAt startFlag nodeWord word bit each within anyOf chain intoSet
+unfolding kripke nodes signals edges edgesOf target edgeWord signalAt startFlag nodeWord word bit each within anyOf chain leadsInto
 case-b =
     told M1 M3 someNext some-down (omega arith) (someSet M1 (machine-cases .m1)) (someSet M3 (machine-cases .m3)) (some-exact M1 (machine-cases .m1)) (some-exact M3 (machine-cases .m3))
     tt 1 tt tt
 
 pub case-c : Equal M5 M6 → ⊥
-unfolding kripke nodes signals edges edgesOf target edgeWord signalAt startFlag nodeWord word bit each within anyOf chain intoSet
+unfolding kripke nodes signals edges edgesOf target edgeWord signalAt startFlag nodeWord word bit each within anyOf chain leadsInto
 case-c =
     told M5 M6 everyNext every-down (omega arith) (everySet M5 (machine-cases .m5)) (everySet M6 (machine-cases .m6)) (every-exact M5 (machine-cases .m5)) (every-exact M6 (machine-cases .m6))
     tt 1 tt tt

@@ -7,7 +7,9 @@ use mathlib.Core.List.{List}
 use mathlib.Core.Bool.{true}
 use lib.Dec.{T}
 use Rattle.truth.specs.Passed.{kripke, nodes, signals, each, machineRefusal}
-use Rattle.truth.proofs.Passed.{each-at, intoSet, into-set, firstNext, first-edge}
+use Rattle.truth.specs.Rows.{leadsInto}
+use Rattle.truth.proofs.Passed.{each-at, firstNext, first-edge}
+use Rattle.truth.proofs.structure.TargetRows.{leads-into}
 use Rattle.comparison.specs.Comparison.{Equal}
 use Rattle.comparison.specs.Blocks.{Members, In, HasStart, Covers, AllIn, Unsplit}
 use Rattle.comparison.proofs.Partition.{keeps-same}
@@ -23,9 +25,9 @@ module _ (M : List ℕ) (ok : machineRefusal M ≡ 0) where
   covered s lo hi = (0, omega arith, tt)
 
   -- every node has a next
-  goes-on : (c d : ℕ) → AllIn M whole c (intoSet M (whole d))
+  goes-on : (c d : ℕ) → AllIn M whole c (leadsInto M (whole d))
   unfolding AllIn In
-  goes-on c d s i = into-set M (whole d) s .0 (firstNext M s, first-edge M ok s (i .0) (i .1), tt)
+  goes-on c d s i = leads-into M (whole d) s .0 (firstNext M s, first-edge M ok s (i .0) (i .1), tt)
 
   signalled : (c i : ℕ) → i ≡ 1 → T (each (nodes M) (kripke M .signal 1)) → AllIn M whole c (kripke M .signal i)
   unfolding AllIn In

@@ -6,7 +6,8 @@ use mathlib.Core.List.{List}
 use lib.Dec.{T}
 use Rattle.truth.specs.Passed.{kripke, signals, lent, lifted, machineRefusal, ruleRefusal, overSignals}
 use Rattle.truth.specs.Truth.{Keeps}
-use Rattle.truth.proofs.Passed.{intoSet, lifts, over-same}
+use Rattle.truth.specs.Rows.{leadsInto}
+use Rattle.truth.proofs.Passed.{lifts, over-same}
 use Rattle.truth.proofs.Decided.{keeps-decided}
 use Rattle.truth.proofs.LentTruth.{same-keeps}
 use Rattle.comparison.specs.Comparison.{Rule, Agreed, Equal, ToldApart}
@@ -20,7 +21,7 @@ module _ (a : ℕ) (M₁ M₂ : List ℕ) (ok₁ : machineRefusal M₁ ≡ 0) (o
     (r : Refinement a M₁ M₂ ls count line m₁ m₂) where
   -- no signal and no "some next of a block" splits a block, and each block has a start node of both machines or of neither
   pub same-rules : ((c i : ℕ) → c < count → 1 ≤ i → i ≤ a → Unsplit M₁ M₂ m₁ m₂ c (kripke M₁ .signal i) (kripke M₂ .signal i))
-      → ((c d : ℕ) → c < count → d < count → Unsplit M₁ M₂ m₁ m₂ c (intoSet M₁ (m₁ d)) (intoSet M₂ (m₂ d)))
+      → ((c d : ℕ) → c < count → d < count → Unsplit M₁ M₂ m₁ m₂ c (leadsInto M₁ (m₁ d)) (leadsInto M₂ (m₂ d)))
       → ((c : ℕ) → c < count → HasStart M₁ m₁ c ↔ HasStart M₂ m₂ c)
       → (L : ℕ) (R : List ℕ) → Rule a L R → Keeps (lifted L) M₁ R ↔ Keeps (lifted L) M₂ R
   same-rules signals nexts starts =

@@ -7,8 +7,10 @@ use mathlib.Core.List.{List}
 use lib.Dec.{T, T-not}
 use Rattle.truth.specs.Passed.{kripke, lifted, machineRefusal}
 use Rattle.truth.specs.Truth.{Keeps}
-use Rattle.truth.proofs.Passed.{both-passed, both-failed, edge-stays, start-node, intoSet, into-set}
+use Rattle.truth.specs.Rows.{leadsInto}
+use Rattle.truth.proofs.Passed.{both-passed, both-failed, edge-stays, start-node}
 use Rattle.truth.proofs.Bisimulation.{Bisimulation}
+use Rattle.truth.proofs.structure.TargetRows.{leads-into}
 use Rattle.comparison.specs.Comparison.{Rule}
 use Rattle.comparison.specs.Blocks.{Members, In, HasStart, Covers, Unsplit}
 use Rattle.comparison.proofs.Invariance.{keeps-agree}
@@ -17,7 +19,7 @@ pub record Stable (a count : ℕ) (M₁ M₂ : List ℕ) (m₁ m₂ : Members) :
   pub covers₁ : Covers M₁ m₁ count
   pub covers₂ : Covers M₂ m₂ count
   pub signals : (c i : ℕ) → c < count → 1 ≤ i → i ≤ a → Unsplit M₁ M₂ m₁ m₂ c (kripke M₁ .signal i) (kripke M₂ .signal i)
-  pub nexts : (c d : ℕ) → c < count → d < count → Unsplit M₁ M₂ m₁ m₂ c (intoSet M₁ (m₁ d)) (intoSet M₂ (m₂ d))
+  pub nexts : (c d : ℕ) → c < count → d < count → Unsplit M₁ M₂ m₁ m₂ c (leadsInto M₁ (m₁ d)) (leadsInto M₂ (m₂ d))
 
 unfoldable pub SameBlock : ℕ → (M₁ M₂ : List ℕ) → Members → Members → ℕ → ℕ → Type 0
 unfolding In
@@ -25,7 +27,7 @@ SameBlock count M₁ M₂ m₁ m₂ s t = (c : ℕ) × (c < count) × In M₁ m�
 
 -- one half: an edge is followed on the other machine
 follows : (count : ℕ) (M₁ M₂ : List ℕ) (m₁ m₂ : Members) → machineRefusal M₁ ≡ 0 → machineRefusal M₂ ≡ 0 → Covers M₁ m₁ count
-    → ((c d : ℕ) → c < count → d < count → Unsplit M₁ M₂ m₁ m₂ c (intoSet M₁ (m₁ d)) (intoSet M₂ (m₂ d)))
+    → ((c d : ℕ) → c < count → d < count → Unsplit M₁ M₂ m₁ m₂ c (leadsInto M₁ (m₁ d)) (leadsInto M₂ (m₂ d)))
     → (s t s′ : ℕ) → SameBlock count M₁ M₂ m₁ m₂ s t → T (kripke M₁ .edge s s′)
     → (t′ : ℕ) × T (kripke M₂ .edge t t′) × SameBlock count M₁ M₂ m₁ m₂ s′ t′
 unfolding Covers Unsplit SameBlock
@@ -35,10 +37,10 @@ follows count M₁ M₂ m₁ m₂ ok₁ ok₂ covers nexts s t s′ b e =
     let r = edge-stays M₁ ok₁ s (x .0) (x .1) s′ e in
     let d = covers s′ (r .0) (r .1) in
     ⊎-elim (λ all.
-    let f = into-set M₂ (m₂ (d .0)) t .1 (all .1 t y) in
+    let f = leads-into M₂ (m₂ (d .0)) t .1 (all .1 t y) in
     let r′ = edge-stays M₂ ok₂ t (y .0) (y .1) (f .0) (f .1) in
     (f .0, f .1, (d .0, d .1, (r .0, r .1, d .2), (r′ .0, r′ .1, f .2))))
-    (λ none. absurd (T-not (intoSet M₁ (m₁ (d .0)) s) (none .0 s x) (into-set M₁ (m₁ (d .0)) s .0 (s′, e, d .2))))
+    (λ none. absurd (T-not (leadsInto M₁ (m₁ (d .0)) s) (none .0 s x) (leads-into M₁ (m₁ (d .0)) s .0 (s′, e, d .2))))
     (nexts (b .0) (d .0) (b .1) (d .1))
 
 swap : {X Y : Type 0} → X × Y → Y × X

@@ -10,7 +10,7 @@ use lib.Dec.{leb}
 use Rattle.truth.specs.Passed.{kripke, nodes, signals, within}
 use Rattle.truth.specs.Rows.{rowHas, rowsHas, leadsInto}
 use Rattle.truth.specs.declared.rows.Row.{Row}
-use Rattle.truth.proofs.Passed.{intoSet, passed, within-in, nodes-sized}
+use Rattle.truth.proofs.Passed.{passed, within-in, nodes-sized}
 use Rattle.comparison.specs.Lines.{Entry, next, Adds}
 use Rattle.comparison.specs.Blocks.{Exact}
 use Rattle.comparison.specs.Tables.{State, firstOf, secondOf, lineOf, written}
@@ -31,8 +31,8 @@ passing-node n q s h lo hi = rw (le-leb s n hi, passed (within 1 128 s) (within-
 
 -- the nodes of a row with an edge into another, both loaded
 pub loaded-leading : (M B : List ℕ) (r q : Row) (c d s : ℕ) → (r .low ≡ getD B (2 * c) 0) × (r .high ≡ getD B (2 * c + 1) 0)
-    → (q .low ≡ getD B (2 * d) 0) × (q .high ≡ getD B (2 * d + 1) 0) → (rowHas r s && leadsInto M (rowHas q) s) ≡ (rowsHas B c s && intoSet M (rowsHas B d) s)
-unfolding leadsInto intoSet
+    → (q .low ≡ getD B (2 * d) 0) × (q .high ≡ getD B (2 * d + 1) 0) → (rowHas r s && leadsInto M (rowHas q) s) ≡ (rowsHas B c s && leadsInto M (rowsHas B d) s)
+unfolding leadsInto
 loaded-leading M B r q c d s e f = rw (e .0, e .1, f .0, f .1)
 
 module _ (M₁ M₂ : List ℕ) (st : State) (w : Staged M₁ M₂ 5 st) (y₁ y₂ x₁ x₂ : ℕ → Bool) (e₁ : (s : ℕ) → x₁ s ≡ passing (nodes M₁) y₁ s) (e₂ : (t : ℕ) → x₂ t ≡ passing (nodes M₂) y₂ t) where
@@ -113,7 +113,7 @@ module _ (M₁ M₂ : List ℕ) (st : State) (w : Staged M₁ M₂ 5 st) (l : �
       }
 
   module _ (q₁ q₂ x₁ x₂ : ℕ → Bool) (e₁ : Exact M₁ (w .ls) l q₁) (e₂ : Exact M₂ (w .ls) l q₂)
-      (same₁ : (s : ℕ) → 1 ≤ s → s ≤ nodes M₁ → x₁ s ≡ intoSet M₁ q₁ s) (same₂ : (t : ℕ) → 1 ≤ t → t ≤ nodes M₂ → x₂ t ≡ intoSet M₂ q₂ t) where
+      (same₁ : (s : ℕ) → 1 ≤ s → s ≤ nodes M₁ → x₁ s ≡ leadsInto M₁ q₁ s) (same₂ : (t : ℕ) → 1 ≤ t → t ≤ nodes M₂ → x₂ t ≡ leadsInto M₂ q₂ t) where
     pub ready-written : Ready M₁ M₂ 4 (written st words′) (st .lines + 1) x₁ x₂
     unfolding staged-written
     ready-written =
@@ -126,9 +126,9 @@ module _ (M₁ M₂ : List ℕ) (st : State) (w : Staged M₁ M₂ 5 st) (l : �
           cut = record {
             from = omega arith;
             to = omega arith;
-            first = exact-as M₁ ls′ (st .lines + 1) (intoSet M₁ q₁) x₁ (λ s a b. sym (same₁ s a b))
+            first = exact-as M₁ ls′ (st .lines + 1) (leadsInto M₁ q₁) x₁ (λ s a b. sym (same₁ s a b))
                 (rw number at (next-added (signals M₁) (w .ls) down l lo hi M₁ (w .accepted₁) q₁ e₁));
-            second = exact-as M₂ ls′ (st .lines + 1) (intoSet M₂ q₂) x₂ (λ t a b. sym (same₂ t a b))
+            second = exact-as M₂ ls′ (st .lines + 1) (leadsInto M₂ q₂) x₂ (λ t a b. sym (same₂ t a b))
                 (rw number at (next-added (signals M₁) (w .ls) down l lo hi M₂ (w .accepted₂) q₂ e₂));
           };
         }

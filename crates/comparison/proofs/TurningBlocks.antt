@@ -8,8 +8,8 @@ use mathlib.Core.List.{List, [], _∷_}
 use mathlib.Core.Bool.{Bool, _&&_, _||_}
 use lib.Dec.{T, leb, eqb, eqb-refl, le→leb}
 use Rattle.truth.specs.Passed.{nodes, within}
-use Rattle.truth.specs.Rows.{marksInto}
-use Rattle.truth.proofs.Passed.{and-both, or-left, within-in, intoSet}
+use Rattle.truth.specs.Rows.{marksInto, leadsInto}
+use Rattle.truth.proofs.Passed.{and-both, or-left, within-in}
 use Rattle.truth.proofs.rows.RowLaws.{held-in}
 use Rattle.comparison.specs.Lines.{next, Adds}
 use Rattle.comparison.specs.Blocks.{In, Meets, Unsplit, Split}
@@ -35,7 +35,7 @@ pub record Turning (M₁ M₂ : List ℕ) (st st′ : State) (mark₁ mark₂ : 
   pub every : (e : ℕ) → 1 ≤ e → e ≤ st′ .count → T (all e)
   pub high : c ≤ st′ .count
   pub done : st′ .count ≡ st .count → (b d : ℕ) → b < c → d < st′ .count
-      → Unsplit M₁ M₂ (firstOf st′) (secondOf st′) b (intoSet M₁ (firstOf st′ d)) (intoSet M₂ (secondOf st′ d))
+      → Unsplit M₁ M₂ (firstOf st′) (secondOf st′) b (leadsInto M₁ (firstOf st′ d)) (leadsInto M₂ (secondOf st′ d))
 
 module _ (M₁ M₂ : List ℕ) (st : State) where
   pub turning-none : Staged M₁ M₂ 5 st → (mark₁ mark₂ : List ℕ) (all : ℕ → Bool) → Marked (firstOf st) (st .count) mark₁ → Marked (secondOf st) (st .count) mark₂
@@ -67,12 +67,12 @@ module _ (M₁ M₂ : List ℕ) (st : State) where
           let r = t .staged .refinement .second in
           marks-high M₂ (t .staged .accepted₂) (secondOf st′) (st′ .count) (r .covers) (r .once) mark₂ (t .marked₂) s lo hi
 
-      same₁ : (d : ℕ) → d < st′ .count → (s : ℕ) → 1 ≤ s → s ≤ nodes M₁ → marksInto M₁ mark₁ s (d + 1) ≡ intoSet M₁ (firstOf st′ d) s
+      same₁ : (d : ℕ) → d < st′ .count → (s : ℕ) → 1 ≤ s → s ≤ nodes M₁ → marksInto M₁ mark₁ s (d + 1) ≡ leadsInto M₁ (firstOf st′ d) s
       same₁ d k s lo hi =
           let r = t .staged .refinement .first in
           marks-next M₁ (t .staged .accepted₁) (firstOf st′) (st′ .count) (r .covers) (r .once) mark₁ (t .marked₁) s lo hi d k (blocks-fit M₁ M₂ 5 st′ (t .staged))
 
-      same₂ : (d : ℕ) → d < st′ .count → (s : ℕ) → 1 ≤ s → s ≤ nodes M₂ → marksInto M₂ mark₂ s (d + 1) ≡ intoSet M₂ (secondOf st′ d) s
+      same₂ : (d : ℕ) → d < st′ .count → (s : ℕ) → 1 ≤ s → s ≤ nodes M₂ → marksInto M₂ mark₂ s (d + 1) ≡ leadsInto M₂ (secondOf st′ d) s
       same₂ d k s lo hi =
           let r = t .staged .refinement .second in
           marks-next M₂ (t .staged .accepted₂) (secondOf st′) (st′ .count) (r .covers) (r .once) mark₂ (t .marked₂) s lo hi d k (blocks-fit M₁ M₂ 5 st′ (t .staged))
@@ -102,9 +102,9 @@ module _ (M₁ M₂ : List ℕ) (st : State) where
           every = t .every;
           high = omega arith;
           done = λ q b d l k. by-cases (ℕ-discrete b c)
-              (λ i. subst (λ (j : ℕ). Unsplit M₁ M₂ (firstOf st′) (secondOf st′) j (intoSet M₁ (firstOf st′ d)) (intoSet M₂ (secondOf st′ d))) (sym i)
+              (λ i. subst (λ (j : ℕ). Unsplit M₁ M₂ (firstOf st′) (secondOf st′) j (leadsInto M₁ (firstOf st′ d)) (leadsInto M₂ (secondOf st′ d))) (sym i)
               (unsplit-as M₁ M₂ (firstOf st′) (secondOf st′) c (λ s. marksInto M₁ mark₁ s (d + 1)) (λ t. marksInto M₂ mark₂ t (d + 1))
-              (intoSet M₁ (firstOf st′ d)) (intoSet M₂ (secondOf st′ d)) (same₁ d k) (same₂ d k) (tells .none z (d + 1))))
+              (leadsInto M₁ (firstOf st′ d)) (leadsInto M₂ (secondOf st′ d)) (same₁ d k) (same₂ d k) (tells .none z (d + 1))))
               (λ f. t .done q b d (omega arith) k);
         }
 
@@ -121,10 +121,10 @@ module _ (M₁ M₂ : List ℕ) (st : State) where
               (g .0, g .1, omega arith)
 
           abbrev x₁ : ℕ → Bool
-          x₁ = intoSet M₁ (firstOf st′ (e - 1))
+          x₁ = leadsInto M₁ (firstOf st′ (e - 1))
 
           abbrev x₂ : ℕ → Bool
-          x₂ = intoSet M₂ (secondOf st′ (e - 1))
+          x₂ = leadsInto M₂ (secondOf st′ (e - 1))
 
           below : e - 1 < st′ .count
           below = omega (arith, mark-in)

@@ -6,8 +6,7 @@ use mathlib.Core.Bool.{Bool}
 use lib.ListN.{length, getD, take}
 use lib.Dec.{T}
 use Rattle.truth.specs.Passed.{kripke, nodes, signals, machineRefusal}
-use Rattle.truth.specs.Rows.{rowsHas}
-use Rattle.truth.proofs.Passed.{intoSet}
+use Rattle.truth.specs.Rows.{rowsHas, leadsInto}
 use Rattle.comparison.specs.Bounded.{Bounded}
 use Rattle.comparison.specs.Lines.{Entry, sig, lineWords, entry, Holds}
 use Rattle.comparison.specs.Blocks.{Exact, Members, Unsplit, Split}
@@ -96,7 +95,7 @@ SignalsDone M₁ M₂ count m₁ m₂ =
 
 -- no "some next of a block" splits a block
 abbrev pub NextsDone : (M₁ M₂ : List ℕ) → ℕ → Members → Members → Type 0
-NextsDone M₁ M₂ count m₁ m₂ = (c d : ℕ) → c < count → d < count → Unsplit M₁ M₂ m₁ m₂ c (intoSet M₁ (m₁ d)) (intoSet M₂ (m₂ d))
+NextsDone M₁ M₂ count m₁ m₂ = (c d : ℕ) → c < count → d < count → Unsplit M₁ M₂ m₁ m₂ c (leadsInto M₁ (m₁ d)) (leadsInto M₂ (m₂ d))
 
 pub record Signalled (M₁ M₂ : List ℕ) (st : State) : Type 0 where
   pub staged : Staged M₁ M₂ 5 st

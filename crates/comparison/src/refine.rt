@@ -4,9 +4,8 @@ ghost use mathlib.Core.List.{List};
 ghost use Prim.Native.Nat.{ℕ, _+_, _<_, _≤_};
 ghost use lib.ListN.{length};
 ghost use Rattle.truth.specs.Passed as Passed;
-ghost use Rattle.truth.specs.Rows.{rowHas, rowsHas};
+ghost use Rattle.truth.specs.Rows.{rowHas, rowsHas, leadsInto};
 ghost use Rattle.truth.specs.Targets.{TailOf};
-ghost use Rattle.truth.proofs.Passed.{intoSet};
 ghost use Rattle.comparison.specs.Bounded.{Bounded};
 ghost use Rattle.comparison.specs.Tables.{state, written, Room, SplitBlock};
 ghost use Rattle.comparison.specs.Stages.{Staged, NextSplit, Starts, Divisible, Divided, Signalled, Settled, Partitioned};
@@ -153,7 +152,7 @@ fn by_next(
         (written (state (now (first .entry)) (now (second .entry)) (now (line .entry)) (now (words .entry)) stand) (now (words .entry)))
         (state (now (first .exit)) (now (second .exit)) (now (line .exit)) (now (words .exit)) r)
         c (stand .lines + 1)
-        (intoSet (now (m1 .entry)) (rowsHas (now (first .entry)) d)) (intoSet (now (m2 .entry)) (rowsHas (now (second .entry)) d))
+        (leadsInto (now (m1 .entry)) (rowsHas (now (first .entry)) d)) (leadsInto (now (m2 .entry)) (rowsHas (now (second .entry)) d))
         ⌝ }
 {
     let x1 = leading(m1, load(first, c as usize), load(first, d as usize), tail1);

@@ -3,7 +3,7 @@ ghost use mathlib.Core.Path.{_≡_};
 ghost use mathlib.Core.Bool.{true, _&&_};
 ghost use Prim.Native.Nat.{ℕ, _≤_};
 ghost use lib.ListN.{length};
-ghost use Rattle.truth.specs.Rows.{rowHas, rowsHas, leadsInto, First};
+ghost use Rattle.truth.specs.Rows.{rowHas, rowsHas, leadsInto};
 ghost use Rattle.truth.specs.Targets.{TailOf};
 ghost use Rattle.comparison.specs.Signatures.{MarkedRow, Marked, MarksIn, TellsApart, TellsUnlike, TellsOne, Alone, Led, TellsMark};
 ghost use Rattle.comparison.specs.Blocks.{Members};
@@ -17,19 +17,6 @@ pub struct Lead {
     pub marks: Row,
     pub rest1: Row,
     pub rest2: Row,
-}
-
-// The highest node of the row, or 0 where it has none.
-fn last(row: Row) -> u16
-    ensures { λ r. ⌜ First (rowHas row) r ⌝ }
-{
-    if row.high != 0 {
-        return 128 - (u64::leading_zeros(row.high) % 64) as u16;
-    }
-    if row.low != 0 {
-        return 64 - (u64::leading_zeros(row.low) % 64) as u16;
-    }
-    0
 }
 
 // Each node of the row gets the mark e.
@@ -96,7 +83,7 @@ fn unlike(m: &[u16], mark: &[u16; 256], all: Row, row: Row, l: Row, tail: Tail) 
 {
     let mut left = row;
     loop {
-        let s = last(left);
+        let s = left.last();
         if s == 0 {
             return 0;
         }
@@ -146,7 +133,7 @@ fn led_by(
     requires { ⌜ MarksIn (now m1) (now mark1) (rowHas row1) (rowHas all) × MarksIn (now m2) (now mark2) (rowHas row2) (rowHas all) × TailOf (now m1) tail1 × TailOf (now m2) tail2 ⌝ }
     ensures { λ r. ⌜ Led (now (m1 .entry)) (now (m2 .entry)) (now (mark1 .entry)) (now (mark2 .entry)) (rowHas row1) (rowHas row2) r ⌝ }
 {
-    let s = last(row1);
+    let s = row1.last();
     if s != 0 {
         return Lead {
             marks: structure::marks_into(m1, mark1, all, s, tail1),
@@ -154,7 +141,7 @@ fn led_by(
             rest2: row2,
         };
     }
-    let t = last(row2);
+    let t = row2.last();
     if t != 0 {
         return Lead {
             marks: structure::marks_into(m2, mark2, all, t, tail2),

@@ -10,8 +10,8 @@ use lib.Dec.{eqb, eqb·suc-suc, lit<}
 use lib.Bits.{bitAnd, bitOr, and-shr, or-shr, and-mod, or-mod, and-mask}
 use lib.Pow.{shl-exact, pow-mono}
 use lib.Count.{ones, ones-step}
-use Rattle.sheets.specs.Words.{bit, indicator}
-use Rattle.sheets.proofs.Counting.{sum, number}
+use Rattle.sheets.specs.Words.{bit, indicator, sum}
+use Rattle.sheets.proofs.Counting.{number}
 use Rattle.sheets.proofs.Bits.{odd-or-even, bit-zero, bit-suc}
 
 abbrev Digit : ℕ → Type 0

@@ -7,7 +7,7 @@ use mathlib.Core.List.{List, [], _∷_}
 use mathlib.Core.Bool.{Bool, true, false, not}
 use lib.ListN.{length}
 use lib.Dec.{T, eqb, eqb→eq, eqb-refl}
-use Rattle.sheets.specs.Words.{indicator, anyOf, member, howMany}
+use Rattle.sheets.specs.Words.{indicator, sum, anyOf, member, howMany}
 use Rattle.sheets.proofs.Tests.{or-left, or-right, or-cases}
 use Rattle.sheets.proofs.Search.{Among}
 
@@ -19,10 +19,6 @@ falls P m step = let r = go (m 0) 0 (omega arith) in (r .0, omega arith, r .2)
     go (suc f) k le = ⊎-elim (λ p. (k, omega arith, p)) (λ lt. let r = go f (suc k) (omega arith) in (r .0, omega arith, r .2)) (step k)
 
 -- ---- sums and counts over 1 to n
-
-unfoldable pub sum : ℕ → (ℕ → ℕ) → ℕ
-sum zero f = 0
-sum (suc n) f = sum n f + f (suc n)
 
 pub sum-mono : (n : ℕ) (f g : ℕ → ℕ) → ((i : ℕ) → 1 ≤ i → i ≤ n → f i ≤ g i) → sum n f ≤ sum n g
 unfolding sum

@@ -40,6 +40,11 @@ unfoldable pub indicator : Bool → ℕ
 indicator true = 1
 indicator false = 0
 
+-- f 1 + .. + f n
+unfoldable pub sum : ℕ → (ℕ → ℕ) → ℕ
+sum zero f = 0
+sum (suc n) f = sum n f + f (suc n)
+
 -- how many elements pass the test
 unfoldable pub howMany : List ℕ → (ℕ → Bool) → ℕ
 unfolding indicator

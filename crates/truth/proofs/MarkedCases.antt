@@ -1,18 +1,29 @@
--- The marked cases of document 01 on truth: (e) Even on M3, (f) automata with no variable, (k) the percent of 1 of 8.
-use mathlib.Core.Path.{_≡_, refl, sym, subst}
-use Prim.Native.Nat.{ℕ, zero, suc, _+_, _-_, _≤_, _<_}
+-- The marked cases of document 01 on truth: (e) Even on M3, (f) automata with no variable, (k) the percent of 1 of 8. Of (e) and (f) also
+-- what labelling answers.
+use mathlib.Core.Path.{_≡_, refl, sym, ap, subst, _∙_}
+use mathlib.Core.Logic.{_↔_}
+use Prim.Native.Nat.{ℕ, zero, suc, _+_, _-_, _*_, _≤_, _<_}
+use native.Mathlib.Nat.{add-zero, div-eq-of-lt-le}
+use native.Mathlib.Numerals.{add-one}
 use native.Mathlib.Omega.{arith}
 use mathlib.Core.List.{List}
 use mathlib.Core.Bool.{Bool, true, false, _&&_, _||_}
-use lib.Dec.{T, eqb, eqb→eq}
-use Rattle.sheets.specs.Words.{word, bit, anyOf, chain}
-use Rattle.sheets.specs.Machine.{nodes, edges, nodeWord, edgeWord, signalAt, target, edgesOf, kripke, machineRefusal}
-use Rattle.sheets.specs.Rules.{lent, automata, states, transitions, automatonWord, stateWord, transitionWord, lineWord, variables, initial, accepting, transitionsOf, transitionTarget, mask, automaton, lineOf, line}
+use borrow.Author.Tests.{le-leb, lt-leb, ne-eqb}
+use lib.Dec.{T, leb, eqb, eqb→eq}
+use Rattle.sheets.specs.Words.{word, bit, within, each, allOf, anyOf, member, indicator, sum, howMany, chain, link}
+use Rattle.sheets.specs.Questions.{none, firstNo}
+use Rattle.sheets.specs.Machine.{nodes, signals, edges, nodeWord, edgeWord, signalAt, startFlag, target, edgesOf, kripke, machineRefusal}
+use Rattle.sheets.specs.Rules.{fits, lent, automata, states, transitions, lines, automatonWord, stateWord, transitionWord, lineWord, variables, initial, statesOf, accepting, transitionsOf, transitionTarget, mask, leads, keep, passing, reached, walks, unmixed, distinct, transitionsFit, automatonFits, total, automatonTotal, unused, refersAbove, pathFits, lineFits, recordQuestions, automataQuestions, ruleQuestions, ruleRefusal, overSignals, q7, q8, q9, q10, q11, q12, q13, q14, q15, automaton, lineOf, line}
 use Rattle.sheets.specs.Worked.{M3}
-use Rattle.sheets.proofs.AcceptedMachine.{firstNext, first-edge, edge-stays}
-use Rattle.truth.specs.Truth.{Valuation, SomePath, Means, TrueWithin, True, TrueAt}
+use Rattle.sheets.proofs.AcceptedMachine.{firstNext, first-edge, edge-stays, nodes-sized, start-node}
+use Rattle.sheets.proofs.Counting.{number}
+use Rattle.sheets.proofs.WorkedSheets.{machine-cases}
+use Rattle.truth.specs.Truth.{Valuation, SomePath, Means, TrueWithin, True, TrueAt, Keeps}
 use Rattle.truth.specs.Labelling.{percent}
-use Rattle.truth.specs.Worked.{EvenSheet, OneState}
+use Rattle.truth.specs.Worked.{EvenSheet, OneState, Labels}
+use Rattle.truth.proofs.labelling.StartRows.{some-start}
+use Rattle.truth.proofs.labelling.LabelCounts.{number-same}
+use Rattle.truth.proofs.labelling.LabelledSheets.{labels}
 
 -- ---- (k)
 
@@ -27,6 +38,36 @@ only true false t = t
 only false b t = absurd t
 
 -- ---- (f)
+
+-- the rule sheets are accepted
+pub one-accepted : ruleRefusal lent (OneState 1) ≡ 0
+unfolding ruleRefusal ruleQuestions recordQuestions automataQuestions firstNo none q7 q8 q9 q10 q11 q12 q13 q14 q15 fits lent automata states transitions lines automatonWord stateWord transitionWord lineWord variables initial statesOf accepting transitionsOf transitionTarget mask leads keep passing reached walks unmixed distinct transitionsFit automatonFits total automatonTotal unused refersAbove pathFits lineFits word bit within each allOf anyOf member indicator howMany chain link
+one-accepted = refl
+
+pub none-accepted : ruleRefusal lent (OneState 0) ≡ 0
+unfolding ruleRefusal ruleQuestions recordQuestions automataQuestions firstNo none q7 q8 q9 q10 q11 q12 q13 q14 q15 fits lent automata states transitions lines automatonWord stateWord transitionWord lineWord variables initial statesOf accepting transitionsOf transitionTarget mask leads keep passing reached walks unmixed distinct transitionsFit automatonFits total automatonTotal unused refersAbove pathFits lineFits word bit within each allOf anyOf member indicator howMany chain link
+none-accepted = refl
+
+each-one : (n : ℕ) → number n (λ s. true) ≡ n
+unfolding number sum indicator
+each-one zero = refl
+each-one (suc n) = add-one (number n (λ s. true)) ∙ ap suc (each-one n)
+
+none-pass : (n : ℕ) → number n (λ s. false) ≡ 0
+unfolding number sum indicator
+none-pass zero = refl
+none-pass (suc n) = add-zero (number n (λ s. false)) ∙ none-pass n
+
+all-pass : (n : ℕ) → number n (λ s. leb s n) ≡ n
+all-pass n = number-same n (λ s. leb s n) (λ s. true) (λ s lo hi. le-leb s n hi) ∙ each-one n
+
+whole-percent : (n : ℕ) → 1 ≤ n → percent n n ≡ 100
+unfolding percent
+whole-percent n lo = div-eq-of-lt-le (2 * n) (omega arith) (omega arith)
+
+no-percent : (n : ℕ) → 1 ≤ n → percent 0 n ≡ 0
+unfolding percent
+no-percent n lo = div-eq-of-lt-le (2 * n) (omega arith) (omega arith)
 
 module _ (M : List ℕ) (accepted : machineRefusal M ≡ 0) where
   -- the first edge of each node, for ever
@@ -73,6 +114,27 @@ module _ (M : List ℕ) (accepted : machineRefusal M ≡ 0) where
   pub case-f-false : (s : ℕ) → TrueAt lent M (OneState 0) 1 s → ⊥
   unfolding TrueAt True TrueWithin Means line lineOf lineWord lent automata states transitions word accepting automaton
   case-f-false s p = never s p
+
+  -- labelling answers 100 percent of the nodes, or none
+  one-line : (b j s : ℕ) → 1 ≤ j → j ≤ lines (OneState b) → j ≡ 1
+  unfolding lines word
+  one-line b j s lo hi = omega arith
+
+  pub case-f-kept : Labels M (OneState 1) (λ j s. leb s (nodes M)) true (nodes M) 100
+  unfolding overSignals lines lineWord lent word each Keeps
+  case-f-kept =
+      labels M (OneState 1) accepted one-accepted tt (λ j s. leb s (nodes M))
+      (λ j s lo hi l h. let e : j ≡ 1 = one-line 1 j s lo hi in (λ t. rw e (case-f-true s l h), λ t. subst T (sym (le-leb s (nodes M) h)) tt))
+      (λ j s over. lt-leb s (nodes M) over) true (λ t s k. let h = start-node M s k in case-f-true s (h .0) (h .1), λ k. tt) (nodes M) (all-pass (nodes M)) 100
+      (whole-percent (nodes M) (nodes-sized M accepted .0))
+
+  pub case-f-broken : Labels M (OneState 0) (λ j s. false) false 0 0
+  unfolding overSignals lines lineWord lent word each Keeps
+  case-f-broken =
+      labels M (OneState 0) accepted none-accepted tt (λ j s. false)
+      (λ j s lo hi l h. let e : j ≡ 1 = one-line 0 j s lo hi in (λ t. absurd t, λ t. case-f-false s (rw e at t))) (λ j s over. refl) false
+      (λ t. absurd t, λ k. let start = some-start M accepted in case-f-false (start .0) (k (start .0) (start .1))) 0 (none-pass (nodes M)) 0
+      (no-percent (nodes M) (nodes-sized M accepted .0))
 
 -- ---- (e)
 
@@ -152,3 +214,41 @@ module _ (p : SomePath (kripke M3) (automaton EvenSheet 1) (TrueWithin (kripke M
 pub case-e-false : TrueAt lent M3 EvenSheet 2 2 → ⊥
 unfolding TrueAt True TrueWithin Means line lineOf lineWord lent automata states transitions word accepting automaton
 case-e-false p = no-path p
+
+pub even-accepted : ruleRefusal lent EvenSheet ≡ 0
+unfolding ruleRefusal ruleQuestions recordQuestions automataQuestions firstNo none q7 q8 q9 q10 q11 q12 q13 q14 q15 fits lent automata states transitions lines automatonWord stateWord transitionWord lineWord variables initial statesOf accepting transitionsOf transitionTarget mask leads keep passing reached walks unmixed distinct transitionsFit automatonFits total automatonTotal unused refersAbove pathFits lineFits word bit within each allOf anyOf member indicator howMany chain link
+even-accepted = refl
+
+-- line 1 is signal 1, which node 1 alone has
+signal-on : TrueAt lent M3 EvenSheet 1 1
+unfolding TrueAt True TrueWithin Means line lineOf lineWord lent automata states transitions word kripke signalAt nodeWord bit
+signal-on = tt
+
+signal-off : TrueAt lent M3 EvenSheet 1 2 → ⊥
+unfolding TrueAt True TrueWithin Means line lineOf lineWord lent automata states transitions word kripke signalAt nodeWord bit
+signal-off t = t
+
+even-truth : (j s : ℕ) → 1 ≤ j → j ≤ 2 → 1 ≤ s → s ≤ 2 → T (eqb s 1) ↔ TrueAt lent M3 EvenSheet j s
+even-truth zero s lo hi l h = absurd (omega arith)
+even-truth (suc j) zero lo hi l h = absurd (omega arith)
+even-truth (suc zero) (suc zero) lo hi l h = (λ t. signal-on, λ t. tt)
+even-truth (suc zero) (suc (suc zero)) lo hi l h = (λ t. absurd t, λ t. absurd (signal-off t))
+even-truth (suc (suc zero)) (suc zero) lo hi l h = (λ t. case-e-true, λ t. tt)
+even-truth (suc (suc zero)) (suc (suc zero)) lo hi l h = (λ t. absurd t, λ t. absurd (case-e-false t))
+even-truth (suc zero) (suc (suc (suc s))) lo hi l h = absurd (omega arith)
+even-truth (suc (suc zero)) (suc (suc (suc s))) lo hi l h = absurd (omega arith)
+even-truth (suc (suc (suc j))) (suc s) lo hi l h = absurd (omega arith)
+
+-- node 1 alone starts
+even-kept : (s : ℕ) → 1 ≤ s → s ≤ 2 → T (kripke M3 .start s) → TrueAt lent M3 EvenSheet 2 s
+unfolding kripke nodes startFlag nodeWord word within
+even-kept zero lo hi k = absurd (omega arith)
+even-kept (suc zero) lo hi k = case-e-true
+even-kept (suc (suc zero)) lo hi k = absurd k
+even-kept (suc (suc (suc s))) lo hi k = absurd (omega arith)
+
+pub case-e : Labels M3 EvenSheet (λ j s. eqb s 1) true 1 50
+unfolding overSignals lines signals lineWord lent word each nodes number sum indicator percent Keeps
+case-e =
+    labels M3 EvenSheet (machine-cases .m3) even-accepted tt (λ j s. eqb s 1) even-truth (λ j s over. ne-eqb s 1 (λ e. omega arith)) true
+    (λ t s k. let h = start-node M3 s k in even-kept s (h .0) (h .1) k, λ k. tt) 1 refl 50 refl

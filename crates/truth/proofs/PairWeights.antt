@@ -5,8 +5,8 @@ use Prim.Native.Nat.{ℕ, _+_, _-_, _≤_, _<_}
 use native.Mathlib.Omega.{arith}
 use mathlib.Core.Bool.{Bool, true, false, not}
 use lib.Dec.{T, not-T}
-use Rattle.sheets.specs.Words.{indicator}
-use Rattle.sheets.proofs.Counting.{sum, sum-mono, sum-strict, sum-most, indicator-mono, indicator-strict, indicator-most}
+use Rattle.sheets.specs.Words.{indicator, sum}
+use Rattle.sheets.proofs.Counting.{sum-mono, sum-strict, sum-most, indicator-mono, indicator-strict, indicator-most}
 use Rattle.truth.specs.Pairs.{weigh, weight}
 
 weigh-less : (x g x′ g′ : Bool) → (T x′ → T x) → (T g′ → T g ⊎ (T x × T (not x′))) → weigh x′ g′ ≤ weigh x g

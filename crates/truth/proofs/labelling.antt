@@ -1,6 +1,7 @@
--- Laws of labelling: its questions, the truths of all lines, start nodes, counts, the answer.
+-- Laws of labelling: its questions, the truths of all lines, start nodes, counts, the answer, sheets whose truths are known.
 pub mod LabelTable
 pub mod LineTruths
 pub mod StartRows
 pub mod LabelCounts
 pub mod LabelAnswers
+pub mod LabelledSheets

@@ -2,3 +2,4 @@
 pub mod RowLaws
 pub mod RowSets
 pub mod RowWalks
+pub mod RowEnds

@@ -1,7 +1,7 @@
 -- Labelling: the rows of a whole rule sheet, and what is answered.
 use mathlib.Core.Path.{_≡_}
 use mathlib.Core.Logic.{_↔_}
-use Prim.Native.Nat.{ℕ, _+_, _-_, _*_, _/_, _%_, _≤_, _<_}
+use Prim.Native.Nat.{ℕ, suc, _+_, _-_, _*_, _/_, _%_, _≤_, _<_}
 use mathlib.Core.List.{List, [], _∷_, _++_}
 use mathlib.Core.Bool.{Bool, false}
 use lib.ListN.{length}
@@ -26,6 +26,12 @@ rowTruths rows j s = T (rowBit rows j s)
 unfoldable pub rowOnes : List ℕ → ℕ → ℕ
 unfolding word ones
 rowOnes rows j = ones (word rows (2 * (j - 1))) + ones (word rows (2 * (j - 1) + 1))
+
+-- of the numbers 1 to n so many have a property
+pub data HowMany (P : ℕ → Type 0) : ℕ → ℕ → Type 0 where
+  none : HowMany P 0 0
+  one-more : {n c : ℕ} → HowMany P n c → P (suc n) → HowMany P (suc n) (suc c)
+  no-more : {n c : ℕ} → HowMany P n c → (P (suc n) → ⊥) → HowMany P (suc n) c
 
 -- the whole percent of c among n, a half rounded up
 unfoldable pub percent : ℕ → ℕ → ℕ

@@ -7,8 +7,7 @@ use mathlib.Core.List.{List}
 use mathlib.Core.Bool.{Bool, not, _&&_}
 use lib.ListN.{length, getD}
 use lib.Dec.{T, eqb, leb}
-use Rattle.sheets.specs.Words.{within, indicator}
-use Rattle.sheets.proofs.Counting.{sum}
+use Rattle.sheets.specs.Words.{within, indicator, sum}
 use Rattle.truth.specs.Rows.{rowsHas}
 
 -- an edge leads from s to s′, in a table that has the successors of node s at row s - 1

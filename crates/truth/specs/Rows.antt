@@ -1,10 +1,10 @@
 -- Rows: a set of nodes from 1 to 128 in two words of 64 bits, node s at bit s - 1 of both together.
 use mathlib.Core.Path.{_≡_}
-use Prim.Native.Nat.{ℕ, zero, suc, _+_, _-_, _*_}
+use Prim.Native.Nat.{ℕ, zero, suc, _+_, _-_, _*_, _≤_}
 use mathlib.Core.Bool.{Bool, true, false, _&&_}
 use mathlib.Core.List.{List}
 use lib.ListN.{getD}
-use lib.Dec.{leb, eqb}
+use lib.Dec.{T, leb, eqb}
 use Rattle.sheets.specs.Words.{bit, within, indicator, anyOf}
 use Rattle.sheets.specs.Machine.{edgesOf, target}
 use Rattle.truth.specs.declared.rows.Row.{Row}
@@ -41,7 +41,16 @@ unfoldable pub marksInto : List ℕ → List ℕ → ℕ → ℕ → Bool
 unfolding within leadsInto
 marksInto M mark s e = within 1 128 e && leadsInto M (λ t. within 1 128 t && eqb (getD mark t 0) e) s
 
--- r is a number that passes, or 0 where none does
-pub record First (p : ℕ → Bool) (r : ℕ) : Type 0 where
+-- of the numbers that pass r is the one before all others in an order, or 0 where none passes
+pub record Foremost (before : ℕ → ℕ → Type 0) (p : ℕ → Bool) (r : ℕ) : Type 0 where
   pub found : (r ≡ 0 → ⊥) → p r ≡ true
   pub none : r ≡ 0 → (s : ℕ) → p s ≡ false
+  pub others : (s : ℕ) → T (p s) → before r s
+
+-- the lowest
+abbrev pub First : (ℕ → Bool) → ℕ → Type 0
+First p r = Foremost (λ r s. r ≤ s) p r
+
+-- the highest
+abbrev pub Last : (ℕ → Bool) → ℕ → Type 0
+Last p r = Foremost (λ r s. s ≤ r) p r

@@ -60,17 +60,16 @@ pub fn sheet_of(question: u16) -> u16
     if question <= 6 { 1 } else { 0 }
 }
 
-// Writes the row of each line, from the first on.
-pub fn label_lines(m: &[u16], r: &[u16], rows: &mut [u64])
-    requires { ⌜ (Machine.machineRefusal (now m) ≡ 0) × ((Rules.ruleRefusal Rules.lent (now r) ≡ 0) × (2 * Rules.lines (now r) ≤ length (now rows))) ⌝ }
-    ensures { λ u. ⌜ Labelling.Rows (now (m .entry)) (now (r .entry)) (now (rows .entry)) (now (rows .exit)) ⌝ }
+// Writes the row of each line from the first to the given one.
+pub fn label_lines(m: &[u16], r: &[u16], rows: &mut [u64], upto: u16)
+    requires { ⌜ (Machine.machineRefusal (now m) ≡ 0) × ((Rules.ruleRefusal Rules.lent (now r) ≡ 0) × ((upto ≤ Rules.lines (now r)) × (2 * upto ≤ length (now rows)))) ⌝ }
+    ensures { λ u. ⌜ Labelling.RowsTo (now (m .entry)) (now (r .entry)) upto (now (rows .entry)) (now (rows .exit)) ⌝ }
 {
     let next = structure::successors(m);
     let n = machine::nodes(m);
     let back = structure::predecessors(&next, n);
-    let l = rules::lines(r);
     let mut j: u16 = 0;
-    while j < l {
+    while j < upto {
         j += 1;
         let row = row_of_line(m, r, &next, &back, rows, j);
         set_line_row(rows, j as usize, row);
@@ -104,8 +103,9 @@ pub fn label(m: &[u16], r: &[u16], rows: &mut [u64]) -> Labelled
             sheet: sheet_of(question),
         };
     }
-    label_lines(m, r, rows);
-    let last = line_row(rows, rules::lines(r) as usize);
+    let l = rules::lines(r);
+    label_lines(m, r, rows, l);
+    let last = line_row(rows, l as usize);
     let count = last.count();
     Labelled::Done {
         kept: keeps(m, last),

@@ -8,7 +8,7 @@ ghost use Rattle.sheets.specs.Questions.{firstNo};
 ghost use Rattle.sheets.specs.Words.{within};
 ghost use Rattle.sheets.specs.Machine as Machine;
 ghost use Rattle.sheets.specs.Rules as Rules;
-ghost use Rattle.truth.specs.OneLine.{Ready, PathReady, Holds};
+ghost use Rattle.truth.specs.OneLine.{Ready, PathReady};
 ghost use Rattle.truth.specs.Rows.{rowsHas};
 ghost use Rattle.truth.specs.Product.{good, stateAt};
 ghost use Rattle.truth.specs.Lists.{Lasso};
@@ -21,7 +21,7 @@ use crate::labelling::sheet_of;
 use crate::lines::solve;
 use crate::product::chain_states;
 use crate::structure;
-use crate::tables::line_row;
+use crate::tables::load;
 use crate::walk::walk;
 use sheets::automata;
 use sheets::checks;
@@ -112,7 +112,7 @@ pub fn named(states: [u16; 16], positions: [u16; 2048], count: u16) -> [u16; 204
     out
 }
 
-// The list for line j, of automaton x, which is true at node s by the rows above it.
+// The list for line j, of automaton x, at node s, by the rows above it: no path where the solved line's row has not the node.
 pub fn show(
     m: &[u16],
     r: &[u16],
@@ -124,10 +124,18 @@ pub fn show(
     exchanged: bool,
     s: u16,
 ) -> Made
-    requires { ⌜ (PathReady (now m) (now r) (now next) (now back) (now rows) j x) × ((1 ≤ s) × ((s ≤ Machine.nodes (now m)) × Holds (now m) (now r) (now rows) j x exchanged s)) ⌝ }
+    requires { ⌜ (PathReady (now m) (now r) (now next) (now back) (now rows) j x) × ((1 ≤ s) × (s ≤ Machine.nodes (now m))) ⌝ }
     ensures { λ a. ⌜ ShowsLine (now (m .entry)) (now (r .entry)) (now (rows .entry)) j x exchanged s (a .nodes) (a .states) (a .answer) ⌝ }
 {
     let solved = solve(m, r, next, back, rows, j, x, exchanged);
+    let row = load(&solved.reached, 0);
+    if !row.has(s) {
+        return Made {
+            nodes: [0u8; 2048],
+            answer: Shown::NoPath,
+            states: [0u16; 2048],
+        };
+    }
     let t = automata::chain_length(r, x);
     let n = machine::nodes(m);
     let found = walk(
@@ -165,7 +173,7 @@ fn show_with(
     exchanged: bool,
     s: u16,
 ) -> Made
-    requires { ⌜ (Machine.machineRefusal (now m) ≡ 0) × ((Rules.ruleRefusal Rules.lent (now r) ≡ 0) × (((s t : ℕ) → 1 ≤ s → s ≤ Machine.nodes (now m) → s ≤ 256 → rowsHas (now next) (s - 1) t ≡ (within 1 128 t && Machine.kripke (now m) .edge s t)) × ((next back : List ℕ) → Ready (now m) (now r) next back → (PathReady (now m) (now r) next back (now rows) j x) × ((1 ≤ s) × ((s ≤ Machine.nodes (now m)) × Holds (now m) (now r) (now rows) j x exchanged s))))) ⌝ }
+    requires { ⌜ (Machine.machineRefusal (now m) ≡ 0) × ((Rules.ruleRefusal Rules.lent (now r) ≡ 0) × (((s t : ℕ) → 1 ≤ s → s ≤ Machine.nodes (now m) → s ≤ 256 → rowsHas (now next) (s - 1) t ≡ (within 1 128 t && Machine.kripke (now m) .edge s t)) × ((next back : List ℕ) → Ready (now m) (now r) next back → (PathReady (now m) (now r) next back (now rows) j x) × ((1 ≤ s) × (s ≤ Machine.nodes (now m)))))) ⌝ }
     ensures { λ a. ⌜ ShowsLine (now (m .entry)) (now (r .entry)) (now (rows .entry)) j x exchanged s (a .nodes) (a .states) (a .answer) ⌝ }
 {
     let back = structure::predecessors(next, machine::nodes(m));
@@ -174,14 +182,14 @@ fn show_with(
 
 // The same with neither table. `make` calls it at two places, so that it keeps a frame of its own, and labelling runs without that.
 fn show_line(m: &[u16], r: &[u16], rows: &[u64], j: u16, x: u16, exchanged: bool, s: u16) -> Made
-    requires { ⌜ (Machine.machineRefusal (now m) ≡ 0) × ((Rules.ruleRefusal Rules.lent (now r) ≡ 0) × ((next back : List ℕ) → Ready (now m) (now r) next back → (PathReady (now m) (now r) next back (now rows) j x) × ((1 ≤ s) × ((s ≤ Machine.nodes (now m)) × Holds (now m) (now r) (now rows) j x exchanged s)))) ⌝ }
+    requires { ⌜ (Machine.machineRefusal (now m) ≡ 0) × ((Rules.ruleRefusal Rules.lent (now r) ≡ 0) × ((next back : List ℕ) → Ready (now m) (now r) next back → (PathReady (now m) (now r) next back (now rows) j x) × ((1 ≤ s) × (s ≤ Machine.nodes (now m))))) ⌝ }
     ensures { λ a. ⌜ ShowsLine (now (m .entry)) (now (r .entry)) (now (rows .entry)) j x exchanged s (a .nodes) (a .states) (a .answer) ⌝ }
 {
     let next = structure::successors(m);
     show_with(m, r, &next, rows, j, x, exchanged, s)
 }
 
-// Labels the lines and makes the list, or says why there is none.
+// Labels the lines above the asked one and makes the list for it, or says why there is none.
 pub fn make(m: &[u16], r: &[u16], line: u16, node: u16, room: usize) -> Made
     ensures { λ a. ⌜ MadeFor (now (m .entry)) (now (r .entry)) line node room (a .nodes) (a .states) (a .answer) ⌝ }
 {
@@ -198,15 +206,7 @@ pub fn make(m: &[u16], r: &[u16], line: u16, node: u16, room: usize) -> Made
     }
     let j = asked(r, line);
     let mut rows = [0u64; 2048];
-    label_lines(m, r, &mut rows);
-    let row = line_row(&rows, j as usize);
-    if !row.has(node) {
-        return Made {
-            nodes: [0u8; 2048],
-            answer: Shown::NoPath,
-            states: [0u16; 2048],
-        };
-    }
+    label_lines(m, r, &mut rows, j - 1);
     let x = rules::line_word(r, j, 1);
     if rules::line_word(r, j, 0) == 4 {
         return show_line(m, r, &rows, j, x, true, node);

@@ -4,7 +4,7 @@ ghost use mathlib.Core.Bool.{false, not, _&&_, _||_};
 ghost use Prim.Native.Nat.{ℕ, _+_, _-_};
 ghost use lib.Dec.{eqb};
 ghost use Rattle.sheets.specs.Words.{within, each};
-ghost use Rattle.truth.specs.Rows.{rowHas, tally, First};
+ghost use Rattle.truth.specs.Rows.{rowHas, tally, First, Last};
 
 // A set of nodes 1 to 128.
 pub struct Row {
@@ -114,7 +114,7 @@ impl Row {
         !self.intersection(other).is_empty()
     }
 
-    // A node of the row, or 0 where it has none.
+    // The lowest node of the row, or 0 where it has none.
     pub fn first(self) -> u16
         ensures { λ r. ⌜ First (rowHas self) r ⌝ }
     {
@@ -123,6 +123,19 @@ impl Row {
         }
         if self.high != 0 {
             return (u64::trailing_zeros(self.high) % 64) as u16 + 65;
+        }
+        0
+    }
+
+    // The highest node of the row, or 0 where it has none.
+    pub fn last(self) -> u16
+        ensures { λ r. ⌜ Last (rowHas self) r ⌝ }
+    {
+        if self.high != 0 {
+            return 128 - (u64::leading_zeros(self.high) % 64) as u16;
+        }
+        if self.low != 0 {
+            return 64 - (u64::leading_zeros(self.low) % 64) as u16;
         }
         0
     }

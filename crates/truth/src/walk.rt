@@ -57,7 +57,7 @@ fn onward(allow: &[u64; 512], next: &[u64; 512], t: usize, set: &[u64; 512], p: 
     }
 }
 
-// A node of the row whose time at position k is before the given one, or 0 where there is none.
+// The lowest node of the row whose time at position k is before the given one, or 0 where there is none.
 fn earlier(row: Row, k: usize, times: &[u16; 2048], time: u16) -> u16
     requires { ⌜ k < 16 ⌝ }
     ensures { λ r. ⌜ First (λ v. rowHas row v && ltb (timeOf (now (times .entry)) k v) time) r ⌝ }

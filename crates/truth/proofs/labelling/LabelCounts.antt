@@ -1,27 +1,36 @@
 -- The count that labelling answers: the ones in the two words of the last row, which are the nodes where the last line is true.
 use mathlib.Core.Path.{_≡_, sym, ap, _∙_}
-use mathlib.Core.Logic.{_↔_, Iff·symm, Iff·trans}
-use Prim.Native.Nat.{ℕ, _+_, _-_, _*_, _^_, _≤_, _<_}
+use mathlib.Core.Logic.{_↔_, ⊎-elim}
+use Prim.Native.Nat.{ℕ, zero, suc, _+_, _-_, _*_, _^_, _≤_, _<_}
+use native.Mathlib.Nat.{add-zero}
+use native.Mathlib.Numerals.{add-one}
 use native.Mathlib.Omega.{arith}
 use mathlib.Core.List.{List}
-use mathlib.Core.Bool.{Bool, false}
-use lib.Dec.{T}
-use Rattle.sheets.specs.Words.{word, indicator}
+use mathlib.Core.Bool.{Bool, false, not}
+use lib.ListN.{length}
+use lib.Dec.{T, T-not}
+use Rattle.sheets.specs.Words.{word, indicator, sum}
+use Rattle.sheets.specs.Questions.{Refusal, none as noRefusal}
 use Rattle.sheets.specs.Machine.{nodes}
 use Rattle.sheets.specs.Rules.{lent, lines}
+use Rattle.sheets.proofs.Tests.{test, passed, failed}
 use Rattle.sheets.proofs.Counting.{sum-most, number}
-use Rattle.sheets.proofs.Positions.{same-tests}
+use Rattle.sheets.proofs.AcceptedMachine.{nodes-sized}
+use Rattle.sheets.proofs.AcceptedRule.{some-line}
 use Rattle.sheets.proofs.BitLaws.{sum-same}
 use Rattle.truth.specs.Truth.{TrueAt}
 use Rattle.truth.specs.Rows.{held}
-use Rattle.truth.specs.Labelling.{rowBit, rowOnes, Rows}
+use Rattle.truth.specs.Labelling.{rowBit, rowOnes, Rows, HowMany, none, one-more, no-more}
+use Rattle.truth.specs.Answers.{refusalOf, Leaves, LabelAnswer}
+use Rattle.truth.specs.declared.labelling.Labelled.the-variants.{Done}
 use Rattle.truth.proofs.rows.RowLaws.{tally-number, sum-split, held-count}
 use Rattle.truth.proofs.tables.RowBits.{row-bit}
+use Rattle.truth.proofs.labelling.LabelTable.{machine-accepted, rules-accepted}
 
 -- ---- numbers of nodes
 
 -- tests that agree count the same
-number-same : (n : ℕ) (p r : ℕ → Bool) → ((s : ℕ) → 1 ≤ s → s ≤ n → p s ≡ r s) → number n p ≡ number n r
+pub number-same : (n : ℕ) (p r : ℕ → Bool) → ((s : ℕ) → 1 ≤ s → s ≤ n → p s ≡ r s) → number n p ≡ number n r
 unfolding number
 number-same n p r same = sum-same n (λ s. indicator (p s)) (λ s. indicator (r s)) (λ s lo hi. ap indicator (same s lo hi))
 
@@ -52,11 +61,34 @@ module _ (M R before after : List ℕ) (small : nodes M ≤ 128) (some : 1 ≤ l
         ∙ rw e at (number-clear (nodes M) (128 - nodes M) (held low high) (λ s lo hi. bits s (omega arith) (omega arith) ∙ rows .clear (lines R) s some (omega arith) lo (omega arith)))
         ∙ number-same (nodes M) (held low high) (rowBit after (lines R)) (λ s lo hi. bits s lo (omega arith))
 
-    -- they are the nodes where the last line is true: whatever test says that of each node from 1 to the last counts as many
-    pub true-counted : (p : ℕ → Bool) → ((s : ℕ) → 1 ≤ s → s ≤ nodes M → T (p s) ↔ TrueAt lent M R (lines R) s) → rowOnes after (lines R) ≡ number (nodes M) p
-    true-counted p says = ones-counted ∙ number-same (nodes M) (rowBit after (lines R)) p same
-      where
-        same : (s : ℕ) → 1 ≤ s → s ≤ nodes M → rowBit after (lines R) s ≡ p s
-        same s lo hi =
-            let e = Iff·trans (rows .truth (lines R) s some (omega arith) lo hi) (Iff·symm (says s lo hi)) in
-            same-tests (rowBit after (lines R) s) (p s) (e .0) (e .1)
+-- ---- labelling's answer: of the nodes 1 to n of the machine so many have the last line true, by definition 5
+
+-- one number more, by a test that says the property of it
+many-more : (P : ℕ → Type 0) (p : ℕ → Bool) (n : ℕ) → T (p (suc n)) ↔ P (suc n) → HowMany P n (number n p)
+    → HowMany P (suc n) (number n p + indicator (p (suc n)))
+unfolding indicator
+many-more P p n says before = ⊎-elim yes no (test (p (suc n)))
+  where
+    yes : T (p (suc n)) → HowMany P (suc n) (number n p + indicator (p (suc n)))
+    yes t = rw (passed (p (suc n)) t, add-one (number n p)) (one-more before (says .0 t))
+
+    no : T (not (p (suc n))) → HowMany P (suc n) (number n p + indicator (p (suc n)))
+    no f = rw (failed (p (suc n)) f, add-zero (number n p)) (no-more before (λ x. T-not (p (suc n)) f (says .1 x)))
+
+tested-many : (P : ℕ → Type 0) (p : ℕ → Bool) (n : ℕ) → ((s : ℕ) → 1 ≤ s → s ≤ n → T (p s) ↔ P s) → HowMany P n (number n p)
+unfolding number sum
+tested-many P p zero says = none
+tested-many P p (suc n) says =
+    many-more P p n (says (suc n) (omega arith) (omega arith)) (tested-many P p n (λ s lo hi. says s lo (omega arith)))
+
+-- the words of the space are of 64 bits
+pub count-true : (M R before after : List ℕ) (kept : Bool) (count share : ℕ) → LabelAnswer M R before after (Done kept count share)
+    → ((i : ℕ) → word after i < 2 ^ 64) → HowMany (TrueAt lent M R (lines R)) (nodes M) count
+unfolding refusalOf Leaves noRefusal
+count-true M R before after kept count share answer words =
+    let asked = ap (λ (r : Refusal). r .number) (answer .refusal) in
+    let some = some-line lent R (rules-accepted M R (length before) asked) in
+    let small = nodes-sized M (machine-accepted M R (length before) asked) .1 in
+    let rows = answer .leaves .rows in
+    let e = answer .leaves .counted ∙ ones-counted M R before after small some rows (words (2 * (lines R - 1))) (words (2 * (lines R - 1) + 1)) in
+    rw e (tested-many (TrueAt lent M R (lines R)) (rowBit after (lines R)) (nodes M) (λ s lo hi. rows .truth (lines R) s some (omega arith) lo hi))

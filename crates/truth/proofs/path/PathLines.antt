@@ -1,8 +1,8 @@
--- Lines of operation 3 and 4: their meaning is a path of their automaton, whose good states the operation gives. The rows of a rule sheet
--- say the truths of its lines, so a path by the bits of the rows is a path by the truths, and so is the list that shows it.
+-- Lines of operation 3 and 4: their meaning is a path of their automaton, whose good states the operation gives. The rows of the lines
+-- above one say their truths, so a path by the bits of the rows is a path by the truths, and so is the list that shows it.
 use mathlib.Core.Path.{_≡_, refl, ap}
 use mathlib.Core.Logic.{_↔_, Iff·symm, Iff·trans, ⊎-elim}
-use Prim.Native.Nat.{ℕ, suc, _≤_, _<_}
+use Prim.Native.Nat.{ℕ, suc, _-_, _≤_, _<_}
 use native.Mathlib.Omega.{arith}
 use native.Mathlib.Decide.{le-ind}
 use mathlib.Core.List.{List}
@@ -16,7 +16,7 @@ use Rattle.sheets.proofs.Search.{within-at, le-or-gt}
 use Rattle.sheets.proofs.AcceptedMachine.{edge-stays}
 use Rattle.sheets.proofs.FormedLines.{Formed, formed, over-sixteen}
 use Rattle.truth.specs.Truth.{Truths, SomePath, Means, TrueAt}
-use Rattle.truth.specs.Labelling.{rowBit, rowTruths, Rows}
+use Rattle.truth.specs.Labelling.{rowBit, rowTruths, RowsTo}
 use Rattle.truth.specs.Lists.{Lasso}
 use Rattle.truth.specs.Product.{argument, good}
 use Rattle.truth.specs.Path.{Shows}
@@ -59,7 +59,7 @@ module _ (R : List ℕ) (j : ℕ) where
   refers-path false f = f
   refers-path true f = f
 
--- ---- a path line of an accepted sheet, and the rows of the lines
+-- ---- a path line of an accepted sheet, and the rows of the lines above it
 
 module _ (M R : List ℕ) (machine : machineRefusal M ≡ 0) (rules : ruleRefusal lent R ≡ 0) (j : ℕ) (lo : 1 ≤ j) (hi : j ≤ lines R)
     (exchanged : Bool) (kind : lineWord lent R j 0 ≡ operation exchanged) where
@@ -70,7 +70,7 @@ module _ (M R : List ℕ) (machine : machineRefusal M ≡ 0) (rules : ruleRefusa
   pub path-refers : ((1 ≤ auto R j) × (auto R j ≤ automata R)) × ((i : ℕ) → i < variables R (auto R j) → (1 ≤ argument R j i) × (argument R j i < j))
   path-refers = refers-path R j exchanged (rw line-is at (formed lent R rules 16 (over-sixteen lent R rules) j lo hi))
 
-  module _ (before rows : List ℕ) (written : Rows M R before rows) where
+  module _ (before rows : List ℕ) (written : RowsTo M R (j - 1) before rows) where
     -- the path exists by the bits of the rows where the line is true
     pub holds-true : (s : ℕ) → 1 ≤ s → s ≤ nodes M → Holds M R rows j (auto R j) exchanged s ↔ TrueAt lent M R j s
     holds-true s l h =

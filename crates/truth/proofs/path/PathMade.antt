@@ -1,13 +1,12 @@
--- What a path call makes: refused by the first "no" of its table; or no path, where the asked line's row has not the node; or the list
--- that shows the path, where it has.
-use mathlib.Core.Path.{_≡_, sym, subst, _∙_}
+-- What a path call makes: refused by the first "no" of its table; or what is said of the asked line by the rows of the lines above it,
+-- which say their truths.
+use mathlib.Core.Path.{_≡_, sym, _∙_}
 use mathlib.Core.Logic.{_↔_}
-use Prim.Native.Nat.{ℕ, _+_, _-_, _*_, _≤_}
+use Prim.Native.Nat.{ℕ, _-_, _*_, _≤_}
 use native.Mathlib.Omega.{arith}
 use mathlib.Core.List.{List}
-use mathlib.Core.Bool.{Bool, true, false, not, _&&_}
-use borrow.Author.Tests.{not-true, not-false}
-use lib.ListN.{length, getD}
+use mathlib.Core.Bool.{Bool, _&&_}
+use lib.ListN.{length}
 use lib.Dec.{T, leb, leb→le, eqb}
 use Rattle.sheets.specs.Words.{within, indicator}
 use Rattle.sheets.specs.Questions.{none as noRefusal, firstNo}
@@ -16,18 +15,15 @@ use Rattle.sheets.specs.Rules.{lent, fits, lines, lineWord, statesOf, q7, ruleR
 use Rattle.sheets.proofs.Tests.{and-left, and-right}
 use Rattle.sheets.proofs.Search.{within-at}
 use Rattle.sheets.proofs.Questions.{AllYes, rule-answers}
-use Rattle.sheets.proofs.AcceptedMachine.{nodes-sized}
 use Rattle.truth.specs.Truth.{TrueAt}
-use Rattle.truth.specs.Rows.{held}
-use Rattle.truth.specs.Labelling.{sheetOf, Rows}
+use Rattle.truth.specs.Labelling.{sheetOf, RowsTo}
 use Rattle.truth.specs.OneLine.{Ready, PathReady, Holds}
 use Rattle.truth.specs.Walked.{placed}
 use Rattle.truth.specs.Path.{asked, q18, q19, pathQuestions}
 use Rattle.truth.specs.PathAnswers.{refusalOf, MadePath, MadeFor}
 use Rattle.truth.specs.Shows.{ShowsLine}
 use Rattle.truth.specs.declared.path.Shown.{Shown}
-use Rattle.truth.specs.declared.path.Shown.the-variants.{Refused, NoPath}
-use Rattle.truth.proofs.tables.RowBits.{row-bit}
+use Rattle.truth.specs.declared.path.Shown.the-variants.{Refused, NoPath, Path}
 use Rattle.truth.proofs.labelling.LabelTable.{Sheeted, refusal-whole, none-whole, machine-whole, rules-whole, last-whole}
 use Rattle.truth.proofs.path.PathTable.{ownQuestions}
 use Rattle.truth.proofs.path.PathLines.{operation, operated, path-refers, holds-true, list-true}
@@ -86,65 +82,50 @@ module _ (M R : List ℕ) (j s room q : ℕ) (e : q ≡ firstNo (pathQuestions M
       unfolding q19
       room-enough = rw ek (leb→le _ room (own-accepted .1 .0))
 
-      -- the rows are those of the lines, and the row of line k is that of two words
-      module _ (before rows : List ℕ) (written : Rows M R before rows) (low high : ℕ) (lo : low ≡ getD rows (2 * (k - 1)) 0)
-          (hi : high ≡ getD rows (2 * (k - 1) + 1) 0) (b : Bool) (eb : b ≡ held low high s) where
-        row-true : T b ↔ TrueAt lent M R k s
-        row-true =
-            let small = nodes-sized M machine-accepted .1 in
-            rw (eb, lo, hi, ← row-bit rows k s (node-in .0) (omega (arith, node-in .1)))
-            (written .truth k s (line-in .0) (line-in .1) (node-in .0) (node-in .1))
+      -- the rows are those of the lines above it, and x and op are its words
+      module _ (before rows : List ℕ) (written : RowsTo M R (k - 1) before rows) (x op : ℕ) (ex : x ≡ lineWord lent R k 1)
+          (eo : op ≡ lineWord lent R k 0) (exchanged : Bool) (ee : eqb op 4 ≡ exchanged) where
+        kind : lineWord lent R k 0 ≡ operation exchanged
+        kind = rw (← ee, eo) (operated (lineWord lent R k 0) path-line)
 
-        pub no-path : (list names : List ℕ) → not b ≡ true → MadeFor M R j s room list names NoPath
-        unfolding refusalOf MadePath
-        no-path list names n = record { refusal = none-asked; made = λ t. subst T (not-true b n) (row-true .1 (rw ek t)) }
+        -- the path exists by the bits of the rows where the line is true
+        line-holds : Holds M R rows k x exchanged s ↔ TrueAt lent M R k s
+        line-holds =
+            rw ex
+            (holds-true M R machine-accepted rules-accepted k (line-in .0) (line-in .1) exchanged kind before rows written s (node-in .0) (node-in .1))
 
-        -- it has the node
-        module _ (found : not b ≡ false) (x op : ℕ) (ex : x ≡ lineWord lent R k 1) (eo : op ≡ lineWord lent R k 0) (exchanged : Bool)
-            (ee : eqb op 4 ≡ exchanged) where
-          kind : lineWord lent R k 0 ≡ operation exchanged
-          kind = rw (← ee, eo) (operated (lineWord lent R k 0) path-line)
-
-          line-true : TrueAt lent M R k s
-          line-true = row-true .0 (subst T (sym (not-false b found)) tt)
-
-          pub show-ready : length rows ≡ 2048
-              → (machineRefusal M ≡ 0) × ((ruleRefusal lent R ≡ 0) × ((next back : List ℕ) → Ready M R next back → PathReady M R next back rows k x × ((1 ≤ s) × ((s ≤ nodes M) × Holds M R rows k x exchanged s))))
-          show-ready size =
-              let r = path-refers M R machine-accepted rules-accepted k (line-in .0) (line-in .1) exchanged kind in
-              let fit = rows-fit R rules-accepted in
-              let in-lines = line-in .1 in (
-                machine-accepted,
-                (
-                  rules-accepted,
-                  λ next back ready. (
-                    record {
-                      ready = ready;
-                      from = rw ex (r .0 .0);
-                      to = rw ex (r .0 .1);
-                      arguments = λ i l. let a = r .1 i (rw ex at l) in (a .0, omega (arith, a .1));
-                    },
-                    (
-                      node-in .0,
-                      (
-                        node-in .1,
-                        rw ex (holds-true M R machine-accepted rules-accepted k (line-in .0) (line-in .1) exchanged kind before rows written s (node-in .0) (node-in .1) .1 line-true),
-                      ),
-                    ),
-                  ),
+        pub show-ready : length rows ≡ 2048
+            → (machineRefusal M ≡ 0) × ((ruleRefusal lent R ≡ 0) × ((next back : List ℕ) → Ready M R next back → PathReady M R next back rows k x × ((1 ≤ s) × (s ≤ nodes M))))
+        show-ready size =
+            let r = path-refers M R machine-accepted rules-accepted k (line-in .0) (line-in .1) exchanged kind in
+            let fit = rows-fit R rules-accepted in
+            let in-lines = line-in .1 in (
+              machine-accepted,
+              (
+                rules-accepted,
+                λ next back ready. (
+                  record {
+                    ready = ready;
+                    from = rw ex (r .0 .0);
+                    to = rw ex (r .0 .1);
+                    arguments = λ i l. let a = r .1 i (rw ex at l) in (a .0, omega (arith, a .1));
+                  },
+                  node-in,
                 ),
-              )
+              ),
+            )
 
-          pub shown : (list names : List ℕ) (answer : Shown) → ShowsLine M R rows k x exchanged s list names answer → MadeFor M R j s room list names answer
-          unfolding refusalOf MadePath
-          shown list names answer sl =
-              rw (sl .answered) (record {
-                refusal = none-asked;
-                made = (
-                  rw (← ek) line-true,
-                  rw (← ek)
-                      (list-true M R machine-accepted rules-accepted k (line-in .0) (line-in .1) exchanged kind before rows written s (node-in .0) (node-in .1)
-                      (placed list) (placed names) (sl .len) (sl .back) (rw ex at (sl .lasso))),
-                  omega (arith, rw ex at (sl .fits), room-enough),
-                );
-              })
+        pub shown : (list names : List ℕ) (answer : Shown) → ShowsLine M R rows k x exchanged s list names answer → MadeFor M R j s room list names answer
+        unfolding ShowsLine refusalOf MadePath
+        shown list names (Refused q i) said = absurd said
+        shown list names NoPath said = record { refusal = none-asked; made = λ t. said (line-holds .1 (rw ek t)) }
+        shown list names (Path l b) said = record {
+          refusal = none-asked;
+          made = (
+            rw (← ek) (line-holds .0 (said .0)),
+            rw (← ek)
+                (list-true M R machine-accepted rules-accepted k (line-in .0) (line-in .1) exchanged kind before rows written s (node-in .0) (node-in .1)
+                (placed list) (placed names) l b (rw ex at (said .1))),
+            omega (arith, rw ex at (said .2), room-enough),
+          );
+        }

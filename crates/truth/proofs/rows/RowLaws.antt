@@ -10,10 +10,10 @@ use borrow.Author.Tests.{le-leb, lt-leb, eq-eqb, ne-eqb}
 use lib.Dec.{T, T-not, not-T, leb, eqb, eqb→eq}
 use lib.Count.{ones}
 use lib.Bits.{bitAnd, bitOr, or-zero-r}
-use Rattle.sheets.specs.Words.{bit, within, each, indicator}
+use Rattle.sheets.specs.Words.{bit, within, each, indicator, sum}
 use Rattle.sheets.proofs.Tests.{passed, failed, and-left}
 use Rattle.sheets.proofs.Search.{Among, le-or-gt, within-at, within-in, each-at, each-in, find}
-use Rattle.sheets.proofs.Counting.{sum, number}
+use Rattle.sheets.proofs.Counting.{number}
 use Rattle.sheets.proofs.Positions.{same-tests}
 use Rattle.sheets.proofs.Bits.{bits-same, no-bit}
 use Rattle.sheets.proofs.BitLaws.{sum-same, ones-number, bit-or, bit-and, bit-not, bit-none, bit-power, one-shifted}

@@ -12,19 +12,19 @@ use Rattle.sheets.specs.Words.{within}
 use Rattle.sheets.proofs.Tests.{and-left, and-right, and-both, or-left, or-right, or-cases, eqb-other}
 use Rattle.sheets.proofs.Search.{within-in}
 use Rattle.sheets.proofs.Counting.{number, number-strict}
-use Rattle.truth.specs.Rows.{held, rowsHas, First}
+use Rattle.truth.specs.Rows.{held, rowsHas, Foremost}
 use Rattle.truth.specs.Pairs.{Before}
 use Rattle.truth.proofs.rows.RowLaws.{held-in}
 
 -- ---- a node found
-module _ (p : ℕ → Bool) (r : ℕ) (f : First p r) where
+module _ {before : ℕ → ℕ → Type 0} (p : ℕ → Bool) (r : ℕ) (f : Foremost before p r) where
   pub none-left : r ≡ 0 → (s : ℕ) → T (p s) → ⊥
   none-left e s t = rw (f .none e s) at t
 
   pub one-left : (r ≡ 0 → ⊥) → T (p r)
   one-left n = rw (f .found n) tt
 
-pub one-within : (a b r : ℕ) → First (held a b) r → (r ≡ 0 → ⊥) → (1 ≤ r) × (r ≤ 128)
+pub one-within : {before : ℕ → ℕ → Type 0} (a b r : ℕ) → Foremost before (held a b) r → (r ≡ 0 → ⊥) → (1 ≤ r) × (r ≤ 128)
 one-within a b r f n = held-in a b r (one-left (held a b) r f n)
 
 -- ---- a node taken out

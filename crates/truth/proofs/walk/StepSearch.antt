@@ -29,6 +29,7 @@ module _ (row rest q : ℕ → Bool) (v : ℕ) (l : Left row rest q) (f : First 
     found = λ n. absurd (n refl);
     none = λ z i. failed (row i && q i) (not-T (row i && q i)
         (λ t. none-left rest v f e i (l .passing i (and-left (row i) (q i) t) (and-right (row i) (q i) t))));
+    others = λ i t. omega arith;
   }
 
   module _ (n : v ≡ 0 → ⊥) where
@@ -36,6 +37,7 @@ module _ (row rest q : ℕ → Bool) (v : ℕ) (l : Left row rest q) (f : First 
     left-found e = record {
       found = λ n. passed (row v && q v) (and-both (row v) (q v) (l .part v (one-left rest v f n)) (rw e tt));
       none = λ z. absurd (n z);
+      others = λ i t. f .others i (l .passing i (and-left (row i) (q i) t) (and-right (row i) (q i) t));
     }
 
     pub left-out : (rest′ : ℕ → Bool) → Less rest v rest′ → q v ≡ false → Left row rest′ q

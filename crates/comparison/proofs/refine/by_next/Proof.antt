@@ -2,8 +2,7 @@
 use borrow.Author.Needs.{needs}
 use mathlib.Core.Path.{_∙_}
 use native.Mathlib.Omega.{arith}
-use Rattle.truth.specs.Rows.{rowHas, rowsHas}
-use Rattle.truth.proofs.Passed.{intoSet}
+use Rattle.truth.specs.Rows.{rowHas, rowsHas, leadsInto}
 use Rattle.comparison.specs.Tables.{state, written}
 use Rattle.comparison.proofs.Splitters.{loaded-leading}
 use Rattle.comparison.proofs.FinerBlocks.{split-within}
@@ -44,7 +43,7 @@ returns c =
     let k′ = c .before .before .before .before .before .before .before .load4 in
     let two = c .before .before .before .before .before .before .leading2 in
     split-within (written (state (a .first .now) (a .second .now) (a .line .now) (a .words .now) (a .stand)) (a .words .now)) _ (a .c) _ (rowHas (one .result)) (rowHas (two .result))
-    (intoSet (a .m1 .now) (rowsHas (a .first .now) (a .d))) (intoSet (a .m2 .now) (rowsHas (a .second .now) (a .d)))
+    (leadsInto (a .m1 .now) (rowsHas (a .first .now) (a .d))) (leadsInto (a .m2 .now) (rowsHas (a .second .now) (a .d)))
     (λ s. one .ensures s ∙ loaded-leading (a .m1 .now) (a .first .now) (l .result) (l′ .result) (a .c) (a .d) s (l .ensures) (l′ .ensures))
     (λ s. two .ensures s ∙ loaded-leading (a .m2 .now) (a .second .now) (k .result) (k′ .result) (a .c) (a .d) s (k .ensures) (k′ .ensures)) (c .split-block .ensures)
 

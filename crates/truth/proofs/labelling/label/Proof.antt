@@ -39,11 +39,14 @@ returns c =
     let a = c .before .before .before .before .before .before .args in
     refused (a .m .now) (a .r .now) (a .rows .now) _ (c .before .before .label-refusal .ensures) _ (c .before .if1 .taken) (c .sheet-of .ensures)
 
-label-lines-requires : tie.Need-label-lines-requires
-label-lines-requires c κs = accepted (c .before)
-
 lines-requires : tie.Need-lines-requires
 lines-requires c κs = omega arith
+
+label-lines-requires : tie.Need-label-lines-requires
+label-lines-requires c κs =
+    let s = accepted (c .before .before) in
+    let l = c .before .lines .ensures in
+    (s .0, (s .1 .0, (omega arith, omega (arith, s .1 .1))))
 
 cast-line-row : tie.Need-cast-line-row
 cast-line-row c = omega arith
@@ -52,7 +55,8 @@ line-row-requires : tie.Need-line-row-requires
 line-row-requires c κs =
     let s = accepted (c .before .before .before .before .before .before) in
     let some = some-line lent _ (s .1 .0) in
-    (omega (arith, c .lines .ensures), omega (arith, c .lines .ensures, s .1 .1, c .before .before .before .before .label-lines .ensures .size))
+    let l = c .before .before .before .before .before .lines .ensures in
+    (omega arith, omega (arith, s .1 .1, c .before .before .before .label-lines .ensures .size))
 
 count-requires : tie.Need-count-requires
 count-requires c κs = omega arith
@@ -75,13 +79,15 @@ returns-2 : tie.Need-returns-2
 returns-2 c =
     let none = c .before .before .before .before .before .before .before .before .before .before .before in
     let a = start none .args in
+    let labelled = c .before .before .before .before .before .before .before .before in
+    let lines = labelled .before .before .lines in
     let row = c .before .before .before .before .line-row in
-    let i = 2 * (c .before .before .before .before .before .lines .result - 1) in
-    let below = c .before .before .before .before .before .before .before .slice-known2 .given in
+    let i = 2 * (lines .result - 1) in
+    let below = c .before .before .before .before .before .before .slice-known2 .given in
     let lo : row .result .low < 2 ^ 64 = omega (arith, row .ensures .0, below i) in
     let hi : row .result .high < 2 ^ 64 = omega (arith, row .ensures .1, below (i + 1)) in
     done (a .m .now) (a .r .now) (a .rows .now) _ (none .before .label-refusal .ensures) _ (row .result .low) (row .result .high) _ _ _ _ (none .if1 .left)
-    (c .before .before .before .before .before .before .before .before .before .label-lines .ensures) (c .before .before .before .before .before .lines .ensures) (row .ensures .0) (row .ensures .1) lo hi (c .before .before .keeps .ensures)
+    (rw (lines .ensures) at (labelled .label-lines .ensures)) (lines .ensures) (row .ensures .0) (row .ensures .1) lo hi (c .before .before .keeps .ensures)
     (c .before .before .before .count .ensures) (rw (c .before .nodes .ensures) at (c .percent .ensures))
 
 pub label-spec : {M : Type 1} → statement M
@@ -91,8 +97,8 @@ label-spec =
     label-refusal-requires
     sheet-of-requires
     returns
-    label-lines-requires
     lines-requires
+    label-lines-requires
     cast-line-row
     line-row-requires
     count-requires
