@@ -9,13 +9,13 @@ ghost use lib.Dec.{T};
 ghost use Rattle.truth.specs.Rows.{rowHas, rowsHas};
 ghost use Rattle.truth.specs.Pairs.{UpTo, Transposed, Before, NoRow, NoRows, Onward, Greatest};
 ghost use Rattle.truth.specs.Trimmed.{SomeBelow, Common, Stuck, Taken, OwingTo, Moved, Trimmed, Started};
+use crate::positions;
 use crate::rows::Row;
 use crate::structure::before;
 use crate::tables::load;
-use crate::tables::store;
 
 // Whether p may go at s to a position whose row meets `to`, the successors of s.
-fn steps_into(allow: &[u64; 512], to: Row, t: usize, p: usize, s: u16, xs: &[u64; 512]) -> bool
+fn steps_into(allow: &[u64; 512], to: Row, t: usize, p: usize, s: u16, xs: &[u64; 32]) -> bool
     requires { ⌜ (p < 16) × (t ≤ 16) ⌝ }
     ensures { λ r. ⌜ T r ↔ SomeBelow t (λ k. T (rowsHas (now (allow .entry)) (16 * p + k) s) × Common (rowHas to) (rowsHas (now (xs .entry)) k)) ⌝ }
 {
@@ -25,7 +25,7 @@ fn steps_into(allow: &[u64; 512], to: Row, t: usize, p: usize, s: u16, xs: &[u64
         k += 1;
         let may = load(allow, 16 * p + j);
         if may.has(s) {
-            let there = load(xs, j);
+            let there = positions::load(xs, j);
             if to.meets(there) {
                 return true;
             }
@@ -42,13 +42,13 @@ fn steps_on(
     p: usize,
     p2: usize,
     s: u16,
-    xs: &[u64; 512],
+    xs: &[u64; 32],
 ) -> bool
     requires { ⌜ (p < 16) × (p2 < t) × (t ≤ 16) × (1 ≤ s) × (s ≤ 128) × T (rowsHas (now allow) (16 * p + p2) s) ⌝ }
     ensures { λ r. ⌜ T r ↔ Onward (now (allow .entry)) (now (next .entry)) t (rowsHas (now (xs .entry))) p s ⌝ }
 {
     let to = load(next, s as usize - 1);
-    let there = load(xs, p2);
+    let there = positions::load(xs, p2);
     if to.meets(there) {
         return true;
     }
@@ -63,7 +63,7 @@ fn stuck(
     p: usize,
     p2: usize,
     look: Row,
-    xs: &[u64; 512],
+    xs: &[u64; 32],
 ) -> Row
     requires { ⌜ (p < 16) × (p2 < t) × (t ≤ 16) × ((s : ℕ) → T (rowHas look s) → T (rowsHas (now allow) (16 * p + p2) s)) ⌝ }
     ensures { λ r. ⌜ Stuck (now (allow .entry)) (now (next .entry)) t (now (xs .entry)) p (rowHas look) (rowHas r) ⌝ }
@@ -83,14 +83,14 @@ fn stuck(
 }
 
 // Takes nodes out of row p, and puts them into row p of `gone`.
-fn take_out(p: usize, lost: Row, xs: &mut [u64; 512], gone: &mut [u64; 512])
-    requires { ⌜ (p < 256) × (length (now xs) ≡ 512) × (length (now gone) ≡ 512) ⌝ }
+fn take_out(p: usize, lost: Row, xs: &mut [u64; 32], gone: &mut [u64; 32])
+    requires { ⌜ (p < 16) × (length (now xs) ≡ 32) × (length (now gone) ≡ 32) ⌝ }
     ensures { λ r. ⌜ Taken p (rowHas lost) (now (xs .entry)) (now (gone .entry)) (now (xs .exit)) (now (gone .exit)) ⌝ }
 {
-    let row = load(xs, p);
-    store(xs, p, row.difference(lost));
-    let others = load(gone, p);
-    store(gone, p, others.union(lost));
+    let row = positions::load(xs, p);
+    positions::store(xs, p, row.difference(lost));
+    let others = positions::load(gone, p);
+    positions::store(gone, p, others.union(lost));
 }
 
 // Takes out of row p what may go to p2 at a node of `pre` and has no step into the rows.
@@ -101,15 +101,15 @@ fn trim_row(
     p: usize,
     p2: usize,
     pre: Row,
-    xs: &mut [u64; 512],
-    gone: &mut [u64; 512],
+    xs: &mut [u64; 32],
+    gone: &mut [u64; 32],
 )
-    requires { ⌜ (p < t) × (p2 < t) × (t ≤ 16) × (length (now xs) ≡ 512) × (length (now gone) ≡ 512) ⌝ }
+    requires { ⌜ (p < t) × (p2 < t) × (t ≤ 16) × (length (now xs) ≡ 32) × (length (now gone) ≡ 32) ⌝ }
     ensures moved { λ r. ⌜ Moved (now (allow .entry)) (now (next .entry)) t (now (xs .entry)) (now (gone .entry)) (now (xs .exit)) (now (gone .exit)) ⌝ }
     ensures owing { λ r. ⌜ OwingTo (now (allow .entry)) (now (next .entry)) t p2 (rowHas pre) (now (xs .exit)) (now (gone .exit)) p ⌝ }
 {
     let may = load(allow, 16 * p + p2);
-    let row = load(xs, p);
+    let row = positions::load(xs, p);
     let look = row.intersection(may).intersection(pre);
     if look.is_empty() {
         return;
@@ -125,10 +125,10 @@ fn trim_into(
     t: usize,
     p2: usize,
     pre: Row,
-    xs: &mut [u64; 512],
-    gone: &mut [u64; 512],
+    xs: &mut [u64; 32],
+    gone: &mut [u64; 32],
 )
-    requires { ⌜ (p2 < t) × (t ≤ 16) × (length (now xs) ≡ 512) × (length (now gone) ≡ 512) ⌝ }
+    requires { ⌜ (p2 < t) × (t ≤ 16) × (length (now xs) ≡ 32) × (length (now gone) ≡ 32) ⌝ }
     ensures moved { λ r. ⌜ Moved (now (allow .entry)) (now (next .entry)) t (now (xs .entry)) (now (gone .entry)) (now (xs .exit)) (now (gone .exit)) ⌝ }
     ensures owing { λ r. ⌜ ((p : ℕ) → p < t → OwingTo (now (allow .entry)) (now (next .entry)) t p2 (rowHas pre) (now (xs .exit)) (now (gone .exit)) p) ⌝ }
 {
@@ -146,18 +146,18 @@ fn trim_from(
     back: &[u64; 512],
     t: usize,
     p2: usize,
-    xs: &mut [u64; 512],
-    gone: &mut [u64; 512],
+    xs: &mut [u64; 32],
+    gone: &mut [u64; 32],
 ) -> bool
-    requires { ⌜ (p2 < t) × (t ≤ 16) × (length (now xs) ≡ 512) × (length (now gone) ≡ 512) ⌝ }
+    requires { ⌜ (p2 < t) × (t ≤ 16) × (length (now xs) ≡ 32) × (length (now gone) ≡ 32) ⌝ }
     ensures trimmed { λ r. ⌜ Trimmed (now (allow .entry)) (now (next .entry)) (now (back .entry)) t (now (xs .entry)) (now (gone .entry)) (now (xs .exit)) (now (gone .exit)) r ⌝ }
     ensures none { λ r. ⌜ (r ≡ false → NoRow (now (gone .exit)) p2) ⌝ }
 {
-    let from = load(gone, p2);
+    let from = positions::load(gone, p2);
     if from.is_empty() {
         return false;
     }
-    store(gone, p2, Row::empty());
+    positions::store(gone, p2, Row::empty());
     let pre = before(back, from);
     trim_into(allow, next, t, p2, pre, xs, gone);
     true
@@ -169,10 +169,10 @@ fn trim_round(
     next: &[u64; 512],
     back: &[u64; 512],
     t: usize,
-    xs: &mut [u64; 512],
-    gone: &mut [u64; 512],
+    xs: &mut [u64; 32],
+    gone: &mut [u64; 32],
 ) -> bool
-    requires { ⌜ (t ≤ 16) × (length (now xs) ≡ 512) × (length (now gone) ≡ 512) ⌝ }
+    requires { ⌜ (t ≤ 16) × (length (now xs) ≡ 32) × (length (now gone) ≡ 32) ⌝ }
     ensures trimmed { λ r. ⌜ Trimmed (now (allow .entry)) (now (next .entry)) (now (back .entry)) t (now (xs .entry)) (now (gone .entry)) (now (xs .exit)) (now (gone .exit)) r ⌝ }
     ensures none { λ r. ⌜ (r ≡ false → NoRows t (now (gone .exit))) ⌝ }
 {
@@ -189,23 +189,23 @@ fn trim_round(
 }
 
 // For each row, what is before it.
-fn befores(back: &[u64; 512], t: usize, xs: &[u64; 512]) -> [u64; 512]
+fn befores(back: &[u64; 512], t: usize, xs: &[u64; 32]) -> [u64; 32]
     requires { ⌜ t ≤ 16 ⌝ }
     ensures { λ r. ⌜ ((k s : ℕ) → k < t → T (rowsHas r k s) ↔ Before (now (back .entry)) (rowsHas (now (xs .entry)) k) s) ⌝ }
 {
-    let mut out = [0u64; 512];
+    let mut out = [0u64; 32];
     let mut k = 0;
     while k < t {
-        let row = load(xs, k);
+        let row = positions::load(xs, k);
         let pre = before(back, row);
-        store(&mut out, k, pre);
+        positions::store(&mut out, k, pre);
         k += 1;
     }
     out
 }
 
 // The nodes at which p may go to a position whose row of the table has them.
-fn goes_on(allow: &[u64; 512], table: &[u64; 512], t: usize, p: usize) -> Row
+fn goes_on(allow: &[u64; 512], table: &[u64; 32], t: usize, p: usize) -> Row
     requires { ⌜ (p < 16) × (t ≤ 16) ⌝ }
     ensures { λ r. ⌜ ((s : ℕ) → T (rowHas r s) ↔ SomeBelow t (λ k. T (rowsHas (now (allow .entry)) (16 * p + k) s) × T (rowsHas (now (table .entry)) k s))) ⌝ }
 {
@@ -213,7 +213,7 @@ fn goes_on(allow: &[u64; 512], table: &[u64; 512], t: usize, p: usize) -> Row
     let mut k = 0;
     while k < t {
         let may = load(allow, 16 * p + k);
-        let there = load(table, k);
+        let there = positions::load(table, k);
         out = out.union(may.intersection(there));
         k += 1;
     }
@@ -223,18 +223,18 @@ fn goes_on(allow: &[u64; 512], table: &[u64; 512], t: usize, p: usize) -> Row
 // Takes out of row p what has nothing ahead.
 fn start_row(
     allow: &[u64; 512],
-    table: &[u64; 512],
+    table: &[u64; 32],
     t: usize,
     p: usize,
-    xs: &mut [u64; 512],
-    gone: &mut [u64; 512],
+    xs: &mut [u64; 32],
+    gone: &mut [u64; 32],
 )
-    requires { ⌜ (p < t) × (t ≤ 16) × (length (now xs) ≡ 512) × (length (now gone) ≡ 512) ⌝ }
+    requires { ⌜ (p < t) × (t ≤ 16) × (length (now xs) ≡ 32) × (length (now gone) ≡ 32) ⌝ }
     ensures { λ r. ⌜ ((back start : List ℕ) → ((k s : ℕ) → k < t → T (rowsHas (now (table .entry)) k s) ↔ Before back (rowsHas start k) s) → Started (now (allow .entry)) back t p start (now (xs .entry)) (now (gone .entry)) → Started (now (allow .entry)) back t (p + 1) start (now (xs .exit)) (now (gone .exit))) ⌝ }
-    ensures { λ r. ⌜ (length (now (xs .exit)) ≡ 512) × (length (now (gone .exit)) ≡ 512) ⌝ }
+    ensures { λ r. ⌜ (length (now (xs .exit)) ≡ 32) × (length (now (gone .exit)) ≡ 32) ⌝ }
 {
     let on = goes_on(allow, table, t, p);
-    let row = load(xs, p);
+    let row = positions::load(xs, p);
     let lost = row.difference(on);
     take_out(p, lost, xs, gone);
 }
@@ -244,12 +244,12 @@ fn trim_first(
     allow: &[u64; 512],
     back: &[u64; 512],
     t: usize,
-    xs: &mut [u64; 512],
-    gone: &mut [u64; 512],
+    xs: &mut [u64; 32],
+    gone: &mut [u64; 32],
 )
-    requires { ⌜ (t ≤ 16) × (length (now xs) ≡ 512) × (length (now gone) ≡ 512) × ((p : ℕ) → NoRow (now gone) p) ⌝ }
+    requires { ⌜ (t ≤ 16) × (length (now xs) ≡ 32) × (length (now gone) ≡ 32) × ((p : ℕ) → NoRow (now gone) p) ⌝ }
     ensures { λ r. ⌜ Started (now (allow .entry)) (now (back .entry)) t t (now (xs .entry)) (now (xs .exit)) (now (gone .exit)) ⌝ }
-    ensures { λ r. ⌜ length (now (gone .exit)) ≡ 512 ⌝ }
+    ensures { λ r. ⌜ length (now (gone .exit)) ≡ 32 ⌝ }
 {
     let table = befores(back, t, xs);
     let mut p = 0;
@@ -266,13 +266,13 @@ pub fn trim(
     next: &[u64; 512],
     back: &[u64; 512],
     t: usize,
-    xs: [u64; 512],
-) -> [u64; 512]
+    xs: [u64; 32],
+) -> [u64; 32]
     requires { ⌜ t ≤ 16 ⌝ }
     ensures { λ r. ⌜ ((n : ℕ) → Transposed n (now (next .entry)) (now (back .entry)) → UpTo n t xs → Greatest (now (allow .entry)) (now (next .entry)) t xs r) ⌝ }
 {
     let mut rows = xs;
-    let mut gone = [0u64; 512];
+    let mut gone = [0u64; 32];
     trim_first(allow, back, t, &mut rows, &mut gone);
     loop {
         if !trim_round(allow, next, back, t, &mut rows, &mut gone) {

@@ -8,7 +8,7 @@ use lib.Dec.{T, eqb}
 use Rattle.sheets.proofs.Tests.{test, passed, failed, or-left, or-right}
 use Rattle.sheets.proofs.Positions.{upTo-none, upTo-yes, upTo-no}
 use Rattle.truth.specs.Rows.{rowsHas}
-use Rattle.truth.specs.Pairs.{timeOf}
+use Rattle.truth.specs.Pairs.{timeOf, Timed}
 use Rattle.truth.specs.Growing.{Spread, enters, below, Turn}
 
 -- ---- additions after each other
@@ -32,7 +32,7 @@ module _ {e : ℕ → ℕ → Bool} {time : ℕ} {ys new times : List ℕ} where
     met = λ p s. rw (none p s, or-false (rowsHas ys p s));
     fresh = λ p s. rw (none p s, or-false (rowsHas new p s));
     kept = λ p s t. refl;
-    timed = λ p s n t. absurd (rw (none p s) at t);
+    timed = λ h p s n t. absurd (rw (none p s) at t);
   }
 
   module _ {f g : ℕ → ℕ → Bool} (join : (p s : ℕ) → g p s ≡ (e p s || f p s)) {ys′ new′ times′ ys″ new″ times″ : List ℕ}
@@ -40,10 +40,10 @@ module _ {e : ℕ → ℕ → Bool} {time : ℕ} {ys new times : List ℕ} where
     kept-on : (p s : ℕ) → T (rowsHas ys p s || e p s) → timeOf times″ p s ≡ timeOf times′ p s
     kept-on p s t = two .kept p s (rw (one .met p s) t)
 
-    timed-on : (p s : ℕ) → T (not (rowsHas ys p s)) → T (g p s) → timeOf times″ p s ≡ time
-    timed-on p s n t =
-        ⊎-elim (λ x. kept-on p s (or-right (rowsHas ys p s) (e p s) x) ∙ one .timed p s n x)
-        (λ x. two .timed p s (rw (one .met p s, failed (rowsHas ys p s) n) x) (rest x)) (test (e p s))
+    timed-on : Timed times → (p s : ℕ) → T (not (rowsHas ys p s)) → T (g p s) → timeOf times″ p s ≡ time
+    timed-on h p s n t =
+        ⊎-elim (λ x. kept-on p s (or-right (rowsHas ys p s) (e p s) x) ∙ one .timed h p s n x)
+        (λ x. two .timed (rw (one .times-size) h) p s (rw (one .met p s, failed (rowsHas ys p s) n) x) (rest x)) (test (e p s))
       where
         rest : T (not (e p s)) → T (f p s)
         rest x = rw (join p s, failed (e p s) x) at t

@@ -11,6 +11,7 @@ use Rattle.sheets.specs.Rules.{statesOf, automaton}
 use Rattle.sheets.proofs.AcceptedMachine.{nodes-sized}
 use Rattle.truth.specs.Labelling.{rowTruths}
 use Rattle.truth.specs.Product.{argument, good, stateAt}
+use Rattle.truth.specs.Pairs.{Timed}
 use Rattle.truth.specs.OneLine.{PathReady, Holds, SolvedLine}
 use Rattle.truth.specs.Walked.{Looped, Walkable, placed}
 use Rattle.truth.specs.Shows.{ShowsLine}
@@ -29,8 +30,8 @@ module _ (M R next back rows : List ℕ) (j x : ℕ) (path : PathReady M R next 
   few-nodes : n ≤ 128
   few-nodes = rw counted (nodes-sized M (path .ready .machine) .1)
 
-  pub walkable : Holds M R rows j x exchanged s → Walkable allow next t n xs ys times s
-  walkable holds = record {
+  pub walkable : Timed times → Holds M R rows j x exchanged s → Walkable allow next t n xs ys times s
+  walkable timed holds = record {
     few = few;
     nodes = few-nodes;
     some = rw chained (some-state M R next back rows j x path exchanged allow xs ys times solved);
@@ -38,6 +39,7 @@ module _ (M R next back rows : List ℕ) (j x : ℕ) (path : PathReady M R next 
     xs-up = rw (counted, chained) (lasting-up M R next back rows j x path exchanged allow xs ys times solved);
     lasts = rw chained (solved .greatest .lasts);
     least = rw chained (solved .least);
+    timed = timed;
     found = line-solved M R (path .ready .machine) (path .ready .rules) x (path .from) (path .to) rows j exchanged allow next
         (solved .allowed) (path .ready .successors) s lo hi (solved .goods) xs ys times (solved .goodRows) (solved .greatest) (solved .least) .1 holds;
   }

@@ -5,7 +5,7 @@ use Prim.Native.Nat.{ℕ, _+_, _-_, _*_, _^_, _≤_, _<_}
 use native.Mathlib.Omega.{arith}
 use mathlib.Core.List.{List}
 use mathlib.Core.Bool.{Bool, _&&_}
-use lib.ListN.{length, getD, set, replicate, length-replicate}
+use lib.ListN.{length, getD, set}
 use lib.Dec.{T}
 use Rattle.sheets.specs.Words.{bit}
 use Rattle.sheets.specs.Positions.{someBelow}
@@ -14,8 +14,9 @@ use Rattle.sheets.proofs.Tests.{and-right}
 use Rattle.sheets.proofs.Search.{le-or-gt}
 use Rattle.sheets.proofs.Positions.{below-split, some-at, some-in, some-same}
 use Rattle.truth.specs.Rows.{held, rowsHas}
+use Rattle.truth.specs.Pairs.{NoRow}
 use Rattle.truth.specs.Product.{agrees, argumentAt, stateAt, takes, Allowed, Masked}
-use Rattle.truth.proofs.tables.TableLaws.{zero-row, stored, stored-here, stored-other, stored-length}
+use Rattle.truth.proofs.tables.TableLaws.{stored, stored-here, stored-other, stored-length}
 use Rattle.truth.proofs.product.ValuationRows.{row-inside, row-at}
 
 -- ---- rows 16 p to 16 p + t - 1
@@ -58,11 +59,11 @@ pub record Built (R states table : List ℕ) (v t p : ℕ) (out : List ℕ) : Ty
   pub inside : (q s : ℕ) → T (rowsHas out q s) → T (someBelow (2 ^ v) (λ w. rowsHas table w s))
 
 module _ (R states table : List ℕ) (v t : ℕ) where
-  pub built-none : Built R states table v t 0 (replicate 512 0)
-  built-none = record {
-    size = length-replicate {A = ℕ} 512 0;
+  pub built-none : (out : List ℕ) → length out ≡ 512 → ((q : ℕ) → NoRow out q) → Built R states table v t 0 out
+  built-none out size none = record {
+    size = size;
     row = λ i k s l m. absurd (omega arith);
-    inside = λ q s x. absurd (rw (zero-row 512 q s) at x);
+    inside = λ q s x. absurd (none q s x);
   }
 
   pub built-more : (p : ℕ) (masks now after : List ℕ) → t ≤ 16 → Built R states table v t p now

@@ -67,17 +67,17 @@ emptied B C p a b h e none =
           (λ n. rw (eqb-other q p n, and-true (rowsHas B q s)) (stored-other B p a b h q s n));
     })
 
--- ---- a table filled row after row: P says what the node s is in row i
-pub record Filled (P : ℕ → ℕ → Bool → Type 0) (k : ℕ) (B : List ℕ) : Type 0 where
-  pub size : length B ≡ 512
+-- ---- a table of z words filled row after row: P says what the node s is in row i
+pub record Filled (z : ℕ) (P : ℕ → ℕ → Bool → Type 0) (k : ℕ) (B : List ℕ) : Type 0 where
+  pub size : length B ≡ z
   pub rows : (i s : ℕ) → i < k → P i s (rowsHas B i s)
 
-module _ (P : ℕ → ℕ → Bool → Type 0) (B : List ℕ) where
-  pub filled-none : length B ≡ 512 → Filled P 0 B
+module _ {z : ℕ} (P : ℕ → ℕ → Bool → Type 0) (B : List ℕ) where
+  pub filled-none : length B ≡ z → Filled z P 0 B
   filled-none e = record { size = e; rows = λ i s l. absurd (omega arith) }
 
-  pub filled-more : (C : List ℕ) (k a b : ℕ) → Filled P k B → k < 256 → C ≡ set (set B (2 * k) a) (2 * k + 1) b → ((s : ℕ) → P k s (held a b s))
-      → Filled P (k + 1) C
+  pub filled-more : (C : List ℕ) (k a b : ℕ) → Filled z P k B → 2 * k + 1 < z → C ≡ set (set B (2 * k) a) (2 * k + 1) b → ((s : ℕ) → P k s (held a b s))
+      → Filled z P (k + 1) C
   filled-more C k a b f z e here =
       rw e (record {
         size = stored-length B k a b fits ∙ f .size;

@@ -19,7 +19,7 @@ abbrev μ-loop : tie.MeasureT-loop
 μ-loop allow back t p2 time ys₀ new₀ times₀ prev p₀ ys new times p = t - p
 
 abbrev start : tie.After-store Inv-loop μ-loop → tie.Start Inv-loop μ-loop
-start c = c .before .before .before .before .before .before
+start c = c .before .before .before .before .before .before .before
 
 cleared : (c : tie.After-store Inv-loop μ-loop) → Cleared (start c .args .p2) (start c .args .new .now) (c .store .last .0)
 cleared c =
@@ -46,7 +46,7 @@ grow-one-requires c κs =
     let s = c .before .before .before .before .before in
     let pre = start s .pre in
     let g = c .before .before .before .before .loop .inv .1 in
-    (omega arith, omega arith, g .ys-size ∙ pre .2, g .new-size ∙ cleared s .size ∙ pre .3, g .times-size ∙ pre .4)
+    (omega arith, omega arith, g .ys-size ∙ pre .2, g .new-size ∙ cleared s .size ∙ pre .3)
 
 add-p : tie.Need-add-p Inv-loop μ-loop
 add-p c = omega arith
@@ -56,15 +56,18 @@ loop-less c = omega arith
 
 loop-again : tie.Need-loop-again Inv-loop μ-loop
 loop-again c =
-    let s = c .before .before .before .before .before .before .before .before .before .before2 .result in
-    let a = c .before .before .before .before .before .before .before .before .before .before .before .before .args in
-    let l = c .before .before .before .before .before .loop in
+    let s = c .before .before .before .before .before .before .before .before .before .before .before .before2 .result in
+    let a = c .before .before .before .before .before .before .before .before .before .before .before .before .before .before .before .args in
+    let l = c .before .before .before .before .before .before .before .loop in
     let e = enters (a .allow .now) (a .p2) (rowHas s) in
-    (omega arith, spread-more (below-next e (l .p)) (l .inv .1) (c .grow-one .ensures))
+    (omega arith, spread-more (below-next e (l .p)) (l .inv .1) (c .before .before .grow-one .ensures))
+
+same-length : tie.Need-same-length Inv-loop μ-loop
+same-length c = c .before .loop .inv .1 .times-size
 
 returns : tie.Need-returns Inv-loop μ-loop
 returns c =
-    let a = c .before .before .before .before .before .before .before .before .args in
+    let a = c .before .before .before .before .before .before .before .before .before .args in
     let l = c .before .loop in
     let from = c .before .before .before .before .before .before .load .ensures in
     let prev = c .before .before .before .before .before .before2 in
@@ -93,4 +96,5 @@ grow-from-spec =
     add-p
     loop-less
     loop-again
+    same-length
     returns)

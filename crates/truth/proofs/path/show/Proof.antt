@@ -1,10 +1,17 @@
 -- `show` meets its contract: the solved tables can be walked, and the walk, its positions named, is the list.
 use borrow.Author.Needs.{needs}
+use mathlib.Core.Path.{_≡_}
 use native.Mathlib.Omega.{arith}
+use lib.ListN.{length}
+use Rattle.truth.specs.Pairs.{Timed}
 use Rattle.truth.proofs.lines.PathRows.{states-few}
 use Rattle.truth.proofs.path.ShownLines.{walkable, list-fits, shows-line}
 use Rattle.truth.proofs.path.show.Statement.{statement}
 use Rattle.truth.proofs.path.show.Tie as tie
+
+-- there is room for every time
+timed : (c : tie.After-solve) → Timed (c .solve .result .times)
+timed c = let long : length (c .solve .result .times) ≡ 2048 = search needs in omega arith
 
 solve-requires : tie.Need-solve-requires
 solve-requires c κs = search needs
@@ -24,7 +31,7 @@ walk-requires c κs =
     let start = counted .before .before .before .before .before .before in
     let a = start .args in
     walkable (a .m .now) (a .r .now) (a .next .now) (a .back .now) (a .rows .now) (a .j) (a .x) (start .pre .0) (a .exchanged) _ _ _ _ (counted .before .before .solve .ensures)
-    (a .s) (start .pre .1 .0) (start .pre .1 .1 .0) _ _ (counted .before .chain-length .ensures) (counted .nodes .ensures) (start .pre .1 .1 .1)
+    (a .s) (start .pre .1 .0) (start .pre .1 .1 .0) _ _ (counted .before .chain-length .ensures) (counted .nodes .ensures) (timed (counted .before .before)) (start .pre .1 .1 .1)
 
 chain-states-requires : tie.Need-chain-states-requires
 chain-states-requires c κs =

@@ -10,10 +10,10 @@ use Rattle.truth.proofs.product.allow_table.Statement.{statement}
 use Rattle.truth.proofs.product.allow_table.Tie as tie
 
 abbrev Inv-loop : tie.InvT-loop
-Inv-loop r rows j x t v states table out₀ p₀ out p = (p ≤ t) × Built r states table v t p out
+Inv-loop r rows j x t out₀ v states table p₀ out p = (p ≤ t) × Built r states table v t p out
 
 abbrev μ-loop : tie.MeasureT-loop
-μ-loop r rows j x t v states table out₀ p₀ out p = t - p
+μ-loop r rows j x t out₀ v states table p₀ out p = t - p
 
 automaton-word-requires : tie.Need-automaton-word-requires Inv-loop μ-loop
 automaton-word-requires c κs = omega arith
@@ -24,11 +24,11 @@ chain-states-requires c κs = omega arith
 valuation-table-requires : tie.Need-valuation-table-requires Inv-loop μ-loop
 unfolding variables
 valuation-table-requires c κs =
-    let s = c .before .before .before .before in
-    rw (c .before .automaton-word .ensures) (s .pre .1, s .pre .3)
+    let pre = c .before .before .before .before .pre in
+    rw (c .before .automaton-word .ensures) (pre .1, pre .3)
 
 loop-holds : tie.Need-loop-holds Inv-loop μ-loop
-loop-holds c = (omega arith, built-none _ _ _ _ _)
+loop-holds c = (omega arith, built-none _ _ _ _ _ _ (c .before .before .before .before .before .pre .4) (c .before .before .before .before .before .pre .5))
 
 cast-masks-from : tie.Need-cast-masks-from Inv-loop μ-loop
 cast-masks-from c = omega arith
@@ -45,9 +45,8 @@ masks-from-requires c κs = omega arith
 set-masks-requires : tie.Need-set-masks-requires Inv-loop μ-loop
 unfolding variables
 set-masks-requires c κs =
-    let s = c .before .before .before .before .before .before .before in
-    let pre = s .before .before .before .pre in
-    (rw (s .automaton-word .ensures) (pre .1), omega arith, pre .0, c .before .before .before .before .loop .inv .1 .size)
+    let pre = c .before .before .before .before .before .before .before .before .before .before .pre in
+    (rw (c .before .before .before .before .before .before .before .automaton-word .ensures) (pre .1), omega arith, pre .0, c .before .before .before .before .loop .inv .1 .size)
 
 add-p : tie.Need-add-p Inv-loop μ-loop
 add-p c = omega arith
@@ -57,22 +56,20 @@ loop-less c = omega arith
 
 loop-again : tie.Need-loop-again Inv-loop μ-loop
 loop-again c =
-    let s = c .before .before .before .before .before .before in
-    let a = s .before .before .before .before .before .args in
+    let a = c .before .before .before .before .before .before .before .before .before .before .before .args in
     let at = c .before .before .before .before .before .loop in (
       omega arith,
-      built-more (a .r .now) (s .before .chain-states .result) (s .valuation-table .result) _ (a .t) (at .p) _ (at .out) _ (omega arith) (at .inv .1)
+      built-more (a .r .now) (c .before .before .before .before .before .before .before .chain-states .result) (c .before .before .before .before .before .before .valuation-table .result) _ (a .t) (at .p) _ (at .out) _ (omega arith) (at .inv .1)
           (c .before .before .before .masks-from .ensures) (c .set-masks .ensures),
     )
 
 returns : tie.Need-returns Inv-loop μ-loop
 unfolding variables
 returns c =
-    let s = c .before .before in
-    let a = s .before .before .before .before .before .args in
+    let a = c .before .before .before .before .before .before .before .args in
     let e : c .before .loop .p ≡ a .t = omega arith in
-    built-allowed (a .r .now) (a .rows .now) (s .before .chain-states .result) (s .valuation-table .result) (rowHas (a .all)) (a .j) (a .x) _ (a .t) _
-    (s .before .before .automaton-word .ensures) (s .before .chain-states .ensures) (s .valuation-table .ensures) (rw e at (c .before .loop .inv .1))
+    built-allowed (a .r .now) (a .rows .now) (c .before .before .before .chain-states .result) (c .before .before .valuation-table .result) (rowHas (a .all)) (a .j) (a .x) _ (a .t) _
+    (c .before .before .before .before .automaton-word .ensures) (c .before .before .before .chain-states .ensures) (c .before .before .valuation-table .ensures) (rw e at (c .before .loop .inv .1))
 
 pub allow-table-spec : {M : Type 1} → statement M
 allow-table-spec =

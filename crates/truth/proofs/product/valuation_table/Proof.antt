@@ -18,7 +18,7 @@ abbrev Valued : List ℕ → List ℕ → Row → ℕ → ℕ → ℕ → ℕ �
 Valued r rows all j v w s b = b ≡ (rowHas all s && agrees v w (argumentAt r rows j s))
 
 abbrev Inv-loop : tie.InvT-loop
-Inv-loop r rows all j v out₀ most w₀ out w = (w ≤ most) × Filled (Valued r rows all j v) w out
+Inv-loop r rows all j v out₀ most w₀ out w = (w ≤ most) × Filled 32 (Valued r rows all j v) w out
 
 abbrev μ-loop : tie.MeasureT-loop
 μ-loop r rows all j v out₀ most w₀ out w = most - w

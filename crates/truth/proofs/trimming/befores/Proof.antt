@@ -12,7 +12,7 @@ use Rattle.truth.proofs.trimming.befores.Statement.{statement}
 use Rattle.truth.proofs.trimming.befores.Tie as tie
 
 abbrev Inv-loop : tie.InvT-loop
-Inv-loop back t xs out₀ k₀ out k = (k ≤ t) × Filled (λ j s b. T b ↔ Before back (rowsHas xs j) s) k out
+Inv-loop back t xs out₀ k₀ out k = (k ≤ t) × Filled 32 (λ j s b. T b ↔ Before back (rowsHas xs j) s) k out
 
 abbrev μ-loop : tie.MeasureT-loop
 μ-loop back t xs out₀ k₀ out k = t - k

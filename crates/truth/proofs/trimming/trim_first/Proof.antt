@@ -10,7 +10,7 @@ use Rattle.truth.proofs.trimming.trim_first.Statement.{statement}
 use Rattle.truth.proofs.trimming.trim_first.Tie as tie
 
 abbrev Inv-loop : tie.InvT-loop
-Inv-loop allow back t xs₀ gone₀ table p₀ xs gone p = (p ≤ t) × (length gone ≡ 512) × Started allow back t p xs₀ xs gone
+Inv-loop allow back t xs₀ gone₀ table p₀ xs gone p = (p ≤ t) × (length gone ≡ 32) × Started allow back t p xs₀ xs gone
 
 abbrev μ-loop : tie.MeasureT-loop
 μ-loop allow back t xs₀ gone₀ table p₀ xs gone p = t - p
