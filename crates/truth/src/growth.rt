@@ -7,10 +7,11 @@ ghost use lib.ListN.{length};
 ghost use lib.Dec.{eqb};
 ghost use Rattle.truth.specs.Rows.{rowHas};
 ghost use Rattle.truth.specs.Pairs.{UpTo, Transposed, NoRows, Timed, NoTime, Least};
+ghost use Rattle.truth.specs.Links.{Into};
 ghost use Rattle.truth.specs.Growing.{Marked, Spread, enters, Turn, left, Turns};
 use crate::positions;
 use crate::rows::Row;
-use crate::structure::before;
+use crate::structure::together;
 use crate::tables::load;
 
 // Writes the time at the nodes of the row, at position p.
@@ -61,6 +62,7 @@ fn grow_one(
 fn grow_from(
     allow: &[u64; 512],
     back: &[u64; 512],
+    into: &[u64; 32],
     t: usize,
     p2: usize,
     time: u16,
@@ -68,15 +70,19 @@ fn grow_from(
     new: &mut [u64; 32],
     times: &mut [u16],
 )
-    requires { ⌜ (p2 < t) × (t ≤ 16) × (length (now ys) ≡ 32) × (length (now new) ≡ 32) ⌝ }
+    requires { ⌜ (p2 < t) × (t ≤ 16) × (length (now ys) ≡ 32) × (length (now new) ≡ 32) × Into (now allow) (now into) t ⌝ }
     ensures { λ r. ⌜ Turn (now (allow .entry)) (now (back .entry)) t p2 time (now (ys .entry)) (now (new .entry)) (now (times .entry)) (now (ys .exit)) (now (new .exit)) (now (times .exit)) ⌝ }
 {
-    let prev = before(back, positions::load(new, p2));
+    let prev = together(back, positions::load(new, p2));
     positions::store(new, p2, Row::empty());
-    let mut p = 0;
-    while p < t {
-        grow_one(allow, p, p2, prev, time, ys, new, times);
-        p += 1;
+    let mut left = positions::load(into, p2);
+    loop {
+        let u = left.first();
+        if u == 0 {
+            return;
+        }
+        left = left.without(u);
+        grow_one(allow, u as usize - 1, p2, prev, time, ys, new, times);
     }
 }
 
@@ -84,13 +90,14 @@ fn grow_from(
 fn grow_round(
     allow: &[u64; 512],
     back: &[u64; 512],
+    into: &[u64; 32],
     t: usize,
     time: u16,
     ys: &mut [u64; 32],
     new: &mut [u64; 32],
     times: &mut [u16],
 ) -> u16
-    requires { ⌜ (t ≤ 16) × (time + left t (now ys) (now new) ≤ 65535) × (length (now ys) ≡ 32) × (length (now new) ≡ 32) ⌝ }
+    requires { ⌜ (t ≤ 16) × (time + left t (now ys) (now new) ≤ 65535) × (length (now ys) ≡ 32) × (length (now new) ≡ 32) × Into (now allow) (now into) t ⌝ }
     ensures turns { λ r. ⌜ Turns (now (allow .entry)) (now (back .entry)) t time r (now (ys .entry)) (now (new .entry)) (now (times .entry)) (now (ys .exit)) (now (new .exit)) (now (times .exit)) ⌝ }
     ensures done { λ r. ⌜ (r ≡ time → NoRows t (now (new .exit))) ⌝ }
 {
@@ -100,7 +107,7 @@ fn grow_round(
         let p2 = k;
         k += 1;
         if !positions::load(new, p2).is_empty() {
-            grow_from(allow, back, t, p2, at, ys, new, times);
+            grow_from(allow, back, into, t, p2, at, ys, new, times);
             at += 1;
         }
     }
@@ -108,22 +115,24 @@ fn grow_round(
 }
 
 // `allow` has the nodes at which the automaton may go from p to p2 at row 16 p + p2, `back` the predecessors of node u at row u - 1;
-// t positions, of which `xs` has the first pairs. The time at which each other pair is met goes to `times`, if it has room for all pairs.
+// t positions, of which `xs` has the first pairs; `into` has the positions that each may be entered from. The time at which each other pair
+// is met goes to `times`, if it has room for all pairs.
 pub fn grow(
     allow: &[u64; 512],
     back: &[u64; 512],
+    into: &[u64; 32],
     t: usize,
     xs: [u64; 32],
     times: &mut [u16],
 ) -> [u64; 32]
-    requires { ⌜ (t ≤ 16) × NoTime (now times) ⌝ }
+    requires { ⌜ (t ≤ 16) × NoTime (now times) × Into (now allow) (now into) t ⌝ }
     ensures { λ r. ⌜ ((n : ℕ) (next : List ℕ) → Transposed n next (now (back .entry)) → UpTo n 256 (now (allow .entry)) → UpTo n t xs → Least (now (allow .entry)) next t xs r (now (times .exit))) ⌝ }
 {
     let mut ys = xs;
     let mut new = xs;
     let mut time: u16 = 1;
     loop {
-        let next = grow_round(allow, back, t, time, &mut ys, &mut new, times);
+        let next = grow_round(allow, back, into, t, time, &mut ys, &mut new, times);
         if next == time {
             return ys;
         }

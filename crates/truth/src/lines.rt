@@ -48,10 +48,12 @@ fn solve_with(
 {
     let all = structure::node_row(machine::nodes(m));
     let t = automata::chain_length(r, x);
-    product::allow_table(r, rows, all, j, x, t, allow);
+    let mut into = [0u64; 32];
+    let mut onto = [0u64; 32];
+    product::allow_table(r, rows, all, j, x, t, allow, &mut into, &mut onto);
     let goods = product::good_table(r, all, x, t, exchanged);
-    let lasting = trim(allow, next, back, t as usize, goods);
-    let reached = grow(allow, back, t as usize, lasting, times);
+    let lasting = trim(allow, next, back, &into, &onto, t as usize, goods);
+    let reached = grow(allow, back, &into, t as usize, lasting, times);
     Sets {
         lasting: lasting,
         reached: reached,

@@ -12,7 +12,7 @@ use lib.Seq.{getD-set-same, getD-set-other}
 use lib.Dec.{eqb}
 use Rattle.sheets.proofs.Tests.{eqb-same, eqb-other}
 use Rattle.truth.specs.Rows.{held, rowHas, rowsHas}
-use Rattle.truth.specs.Pairs.{Cleared, timeOf}
+use Rattle.truth.specs.Pairs.{NoRow, Cleared, timeOf}
 use Rattle.truth.specs.declared.rows.Row.{Row}
 use Rattle.truth.proofs.rows.RowLaws.{held-none}
 
@@ -87,6 +87,11 @@ module _ {z : ℕ} (P : ℕ → ℕ → Bool → Type 0) (B : List ℕ) where
     where
       fits : 2 * k + 1 < length B
       fits = omega (arith, f .size)
+
+-- the rows after those stored are as empty as they were
+pub empty-after : (B C : List ℕ) (k a b : ℕ) → 2 * k + 1 < length B → C ≡ set (set B (2 * k) a) (2 * k + 1) b → ((i : ℕ) → k ≤ i → NoRow B i)
+    → (i : ℕ) → k + 1 ≤ i → NoRow C i
+empty-after B C k a b h e none i l s x = none i (omega arith) s (rw (stored-other B k a b h i s (λ q. omega arith)) at (rw e at x))
 
 -- ---- a number stored by pair
 module _ (xs : List ℕ) (q v x : ℕ) where

@@ -12,10 +12,10 @@ use Rattle.truth.proofs.growth.grow.Statement.{statement}
 use Rattle.truth.proofs.growth.grow.Tie as tie
 
 abbrev Inv-loop : tie.InvT-loop
-Inv-loop allow back t times₀ ys₀ new₀ time₀ times ys new time = Turns allow back t 1 time ys₀ new₀ times₀ ys new times
+Inv-loop allow back into t times₀ ys₀ new₀ time₀ times ys new time = Turns allow back t 1 time ys₀ new₀ times₀ ys new times
 
 abbrev μ-loop : tie.MeasureT-loop
-μ-loop allow back t times₀ ys₀ new₀ time₀ times ys new time = left t ys new
+μ-loop allow back into t times₀ ys₀ new₀ time₀ times ys new time = left t ys new
 
 loop-holds : tie.Need-loop-holds Inv-loop μ-loop
 loop-holds c = turns-none
@@ -26,7 +26,7 @@ grow-round-requires c κs =
     let g = c .before .before .before .loop .inv in
     let most = weight-most (a .t) (λ p s. not (rowsHas (a .xs) p s)) (rowsHas (a .xs)) (omega arith) in
     let long : length (a .xs) ≡ 32 = search needs in
-    (omega arith, omega (arith, g .fewer, most), g .ys-size ∙ long, g .new-size ∙ long)
+    (omega arith, omega (arith, g .fewer, most), g .ys-size ∙ long, g .new-size ∙ long, c .before .before .before .before .before .pre .2)
 
 same-length : tie.Need-same-length Inv-loop μ-loop
 same-length c = c .before .before .before .grow-round .ensures .0 .times-size ∙ c .before .before .before .before .before .before .before .loop .inv .times-size

@@ -15,10 +15,10 @@ use Rattle.truth.proofs.growth.grow_round.Statement.{statement}
 use Rattle.truth.proofs.growth.grow_round.Tie as tie
 
 abbrev Inv-loop : tie.InvT-loop
-Inv-loop allow back t time ys₀ new₀ times₀ at₀ k₀ ys new times at k = (k ≤ t) × Turns allow back t time at ys₀ new₀ times₀ ys new times × (at ≡ time → NoRows k new)
+Inv-loop allow back into t time ys₀ new₀ times₀ at₀ k₀ ys new times at k = (k ≤ t) × Turns allow back t time at ys₀ new₀ times₀ ys new times × (at ≡ time → NoRows k new)
 
 abbrev μ-loop : tie.MeasureT-loop
-μ-loop allow back t time ys₀ new₀ times₀ at₀ k₀ ys new times at k = t - k
+μ-loop allow back into t time ys₀ new₀ times₀ at₀ k₀ ys new times at k = t - k
 
 abbrev at-loop : tie.After-is-empty Inv-loop μ-loop → tie.At-loop Inv-loop μ-loop
 at-loop c = c .before .before .before .before
@@ -43,7 +43,7 @@ grow-from-requires : tie.Need-grow-from-requires Inv-loop μ-loop
 grow-from-requires c κs =
     let pre = c .before .before .before .before .before .before .before .before .before .before .pre in
     let g = c .before .before .before .before .before .before .before .before .loop .inv .1 in
-    (omega arith, omega arith, g .ys-size ∙ pre .2, g .new-size ∙ pre .3)
+    (omega arith, omega arith, g .ys-size ∙ pre .2, g .new-size ∙ pre .3, pre .4)
 
 add-at : tie.Need-add-at Inv-loop μ-loop
 add-at c =
