@@ -8,17 +8,17 @@ use mathlib.Core.Bool.{Bool, not, _&&_, _||_}
 use lib.ListN.{length}
 use lib.Dec.{T, ltb}
 use Rattle.truth.specs.Rows.{rowsHas}
-use Rattle.truth.specs.Pairs.{Steps, UpTo, Transposed, Before, Cleared, Reaches, timeOf, Sooner, weight}
+use Rattle.truth.specs.Pairs.{Steps, UpTo, Transposed, Before, Cleared, Reaches, timeOf, Timed, Sooner, weight}
 
 -- ---- what changes
 
--- the nodes of `f` have the time at position p, all else its time before
+-- the nodes of `f` have the time at position p where times are kept, all else its time before
 pub record Marked (f : ℕ → Bool) (p time : ℕ) (times times′ : List ℕ) : Type 0 where
   pub size : length times′ ≡ length times
-  pub marks : (s : ℕ) → T (f s) → timeOf times′ p s ≡ time
+  pub marks : Timed times → (s : ℕ) → T (f s) → timeOf times′ p s ≡ time
   pub rest : (q s : ℕ) → 1 ≤ s → s ≤ 128 → (q ≡ p → T (not (f s))) → timeOf times′ q s ≡ timeOf times q s
 
--- the pairs of `e` are added: those not met before are new, and have the time
+-- the pairs of `e` are added: those not met before are new, and have the time where times are kept
 pub record Spread (e : ℕ → ℕ → Bool) (time : ℕ) (ys new times ys′ new′ times′ : List ℕ) : Type 0 where
   pub ys-size : length ys′ ≡ length ys
   pub new-size : length new′ ≡ length new
@@ -26,7 +26,7 @@ pub record Spread (e : ℕ → ℕ → Bool) (time : ℕ) (ys new times ys′ ne
   pub met : (p s : ℕ) → rowsHas ys′ p s ≡ (rowsHas ys p s || e p s)
   pub fresh : (p s : ℕ) → rowsHas new′ p s ≡ (rowsHas new p s || (e p s && not (rowsHas ys p s)))
   pub kept : (p s : ℕ) → T (rowsHas ys p s) → timeOf times′ p s ≡ timeOf times p s
-  pub timed : (p s : ℕ) → T (not (rowsHas ys p s)) → T (e p s) → timeOf times′ p s ≡ time
+  pub timed : Timed times → (p s : ℕ) → T (not (rowsHas ys p s)) → T (e p s) → timeOf times′ p s ≡ time
 
 -- at node s the automaton may go from p to p′, and `prev` has s
 abbrev pub enters : List ℕ → ℕ → (ℕ → Bool) → ℕ → ℕ → Bool
@@ -57,8 +57,8 @@ pub record Growing (allow next : List ℕ) (n t : ℕ) (xs ys new times : List �
   pub fresh : (p s : ℕ) → p < t → T (rowsHas new p s) → T (rowsHas ys p s)
   pub upTo : UpTo n t ys
   pub done : (p s p′ s′ : ℕ) → p < t → Steps allow next t p s p′ s′ → T (rowsHas ys p′ s′) → T (rowsHas ys p s) ⊎ T (rowsHas new p′ s′)
-  pub falls : (p s : ℕ) → p < t → T (rowsHas ys p s) → T (rowsHas xs p s) ⊎ Sooner allow next t ys times p s
-  pub early : (p s : ℕ) → p < t → T (rowsHas ys p s) → timeOf times p s < time
+  pub falls : Timed times → (p s : ℕ) → p < t → T (rowsHas ys p s) → T (rowsHas xs p s) ⊎ Sooner allow next t ys times p s
+  pub early : Timed times → (p s : ℕ) → p < t → T (rowsHas ys p s) → timeOf times p s < time
 
 -- turns one after the other, from one time to another
 pub record Turns (allow back : List ℕ) (t time time′ : ℕ) (ys new times ys′ new′ times′ : List ℕ) : Type 0 where

@@ -57,16 +57,25 @@ pub data Reaches (allow next : List ℕ) (t : ℕ) (xs : List ℕ) : ℕ → ℕ
 abbrev pub timeOf : List ℕ → ℕ → ℕ → ℕ
 timeOf times p s = getD times (128 * p + (s - 1)) 0
 
+-- there is room for the time of every pair of 16 positions
+abbrev pub Timed : List ℕ → Type 0
+Timed times = 2048 ≤ length times
+
+-- every time is 0
+abbrev pub NoTime : List ℕ → Type 0
+NoTime times = (i : ℕ) → getD times i 0 ≡ 0
+
 -- a step leads from (p, s) to a pair of `set` with an earlier time
 abbrev pub Sooner : List ℕ → List ℕ → ℕ → List ℕ → List ℕ → ℕ → ℕ → Type 0
 Sooner allow next t set times p s = (p′ s′ : ℕ) × Steps allow next t p s p′ s′ × T (rowsHas set p′ s′) × (timeOf times p′ s′ < timeOf times p s)
 
--- `ys` is the least set that has `xs` and every pair with a step into it; along some step from each other pair the time falls
+-- `ys` is the least set that has `xs` and every pair with a step into it; where times are kept, the time falls along some step from each
+-- other pair
 pub record Least (allow next : List ℕ) (t : ℕ) (xs ys times : List ℕ) : Type 0 where
   pub keeps : (p s : ℕ) → p < t → T (rowsHas xs p s) → T (rowsHas ys p s)
   pub reaches : (p s : ℕ) → p < t → T (rowsHas ys p s) → Reaches allow next t xs p s
   pub closed : (p s p′ s′ : ℕ) → p < t → Steps allow next t p s p′ s′ → T (rowsHas ys p′ s′) → T (rowsHas ys p s)
-  pub falls : (p s : ℕ) → p < t → T (rowsHas ys p s) → T (rowsHas xs p s) ⊎ Sooner allow next t ys times p s
+  pub falls : Timed times → (p s : ℕ) → p < t → T (rowsHas ys p s) → T (rowsHas xs p s) ⊎ Sooner allow next t ys times p s
 
 -- ---- the largest set of pairs each of which has a step into it
 

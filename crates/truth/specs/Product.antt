@@ -1,16 +1,16 @@
 -- The automaton of a path line beside the machine, in rows: where the argument lines have a valuation, where a position may go to
 -- another, and which positions are good.
 use mathlib.Core.Path.{_≡_}
-use mathlib.Core.Logic.{_⊎_}
+use mathlib.Core.Logic.{_⊎_, _↔_}
 use Prim.Native.Nat.{ℕ, zero, suc, _+_, _-_, _*_, _^_, _≤_, _<_}
 use mathlib.Core.List.{List}
 use mathlib.Core.Bool.{Bool, true, false, not, _&&_}
 use lib.ListN.{length, getD}
 use lib.Dec.{T, eqb}
 use Rattle.sheets.specs.Words.{bit, anyOf}
-use Rattle.sheets.specs.Positions.{someBelow}
 use Rattle.sheets.specs.Rules.{lent, lineWord, variables, statesOf, accepting, automaton, transitionsOf, transitionTarget, mask}
 use Rattle.truth.specs.Rows.{rowsHas}
+use Rattle.truth.specs.Links.{Into, Onto}
 
 unfoldable pub same : Bool → Bool → Bool
 same true b = b
@@ -62,8 +62,20 @@ takes R q w q′ = anyOf (transitionsOf R q) (λ y. bit (mask R y) w && eqb (tra
 abbrev pub Refers : List ℕ → List ℕ → ℕ → ℕ → Type 0
 Refers R rows j v = (i : ℕ) → i < v → (1 ≤ argument R j i) × (2 * argument R j i ≤ length rows)
 
--- `after` is `before` with, at rows 16 p to 16 p + t - 1, the rows of a table of valuations that the masks there have
-pub record Masked (table : List ℕ) (v : ℕ) (masks : List ℕ) (p t : ℕ) (before after : List ℕ) : Type 0 where
+-- s is in the row of a valuation that the mask has
+abbrev pub Drawn : List ℕ → ℕ → ℕ → Type 0
+Drawn table mask s = (w : ℕ) × T (bit mask w) × T (rowsHas table w s)
+
+-- what one mask changes: row 16 p + k of `allow` has the nodes that it draws, and the sets know of p and k what they must
+pub record MaskSet (table : List ℕ) (mask p k : ℕ) (allow into onto allow′ into′ onto′ : List ℕ) : Type 0 where
+  pub size : length allow′ ≡ length allow
+  pub here : (s : ℕ) → T (rowsHas allow′ (16 * p + k) s) ↔ Drawn table mask s
+  pub other : (q s : ℕ) → (q ≡ 16 * p + k → ⊥) → rowsHas allow′ q s ≡ rowsHas allow q s
+  pub enters : (t : ℕ) → t ≤ 16 → p < t → k < t → Into allow into t → Into allow′ into′ t
+  pub leaves : (t : ℕ) → t ≤ 16 → p < t → k < t → Onto allow onto t → Onto allow′ onto′ t
+
+-- `after` is `before` with, at rows 16 p to 16 p + t - 1, the nodes that the masks there draw
+pub record Masked (table masks : List ℕ) (p t : ℕ) (before after : List ℕ) : Type 0 where
   pub size : length after ≡ 512
-  pub here : (k s : ℕ) → k < t → rowsHas after (16 * p + k) s ≡ someBelow (2 ^ v) (λ w. bit (getD masks k 0) w && rowsHas table w s)
+  pub here : (k s : ℕ) → k < t → T (rowsHas after (16 * p + k) s) ↔ Drawn table (getD masks k 0) s
   pub other : (q s : ℕ) → (q < 16 * p) ⊎ (16 * p + t ≤ q) → rowsHas after q s ≡ rowsHas before q s

@@ -5,7 +5,7 @@ use mathlib.Core.List.{List}
 use lib.ListN.{getD}
 use lib.Dec.{T}
 use Rattle.truth.specs.Rows.{rowsHas}
-use Rattle.truth.specs.Pairs.{Steps, UpTo, Least, Lasts}
+use Rattle.truth.specs.Pairs.{Steps, UpTo, Timed, Least, Lasts}
 
 -- Places 1 to `len`, with the pair at place i; from `back` on all pairs are in `xs`, and no pair is there twice.
 pub record Looped (allow next : List ℕ) (t n : ℕ) (xs : List ℕ) (s : ℕ) (node position : ℕ → ℕ) (len back : ℕ) : Type 0 where
@@ -29,6 +29,7 @@ pub record Walkable (allow next : List ℕ) (t n : ℕ) (xs ys times : List ℕ)
   pub xs-up : UpTo n t xs
   pub lasts : Lasts allow next t (rowsHas xs)
   pub least : Least allow next t xs ys times
+  pub timed : Timed times
   pub found : T (rowsHas ys 0 s)
 
 -- the item at place i of a list, places from 1

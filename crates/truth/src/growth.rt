@@ -6,22 +6,17 @@ ghost use mathlib.Core.List.{List};
 ghost use lib.ListN.{length};
 ghost use lib.Dec.{eqb};
 ghost use Rattle.truth.specs.Rows.{rowHas};
-ghost use Rattle.truth.specs.Pairs.{UpTo, Transposed, NoRows, Least};
+ghost use Rattle.truth.specs.Pairs.{UpTo, Transposed, NoRows, Timed, NoTime, Least};
+ghost use Rattle.truth.specs.Links.{Into};
 ghost use Rattle.truth.specs.Growing.{Marked, Spread, enters, Turn, left, Turns};
+use crate::positions;
 use crate::rows::Row;
-use crate::structure::before;
+use crate::structure::together;
 use crate::tables::load;
-use crate::tables::store;
-
-// The set, and the time at which each of its pairs was met.
-pub struct Growth {
-    pub rows: [u64; 512],
-    pub times: [u16; 2048],
-}
 
 // Writes the time at the nodes of the row, at position p.
-fn mark(row: Row, p: usize, time: u16, times: &mut [u16; 2048])
-    requires { ⌜ (p < 16) × (length (now times) ≡ 2048) ⌝ }
+fn mark(row: Row, p: usize, time: u16, times: &mut [u16])
+    requires { ⌜ (p < 16) × Timed (now times) ⌝ }
     ensures { λ r. ⌜ Marked (rowHas row) p time (now (times .entry)) (now (times .exit)) ⌝ }
 {
     let mut rest = row;
@@ -42,21 +37,24 @@ fn grow_one(
     p2: usize,
     prev: Row,
     time: u16,
-    ys: &mut [u64; 512],
-    new: &mut [u64; 512],
-    times: &mut [u16; 2048],
+    ys: &mut [u64; 32],
+    new: &mut [u64; 32],
+    times: &mut [u16],
 )
-    requires { ⌜ (p < 16) × (p2 < 16) × (length (now ys) ≡ 512) × (length (now new) ≡ 512) × (length (now times) ≡ 2048) ⌝ }
+    requires { ⌜ (p < 16) × (p2 < 16) × (length (now ys) ≡ 32) × (length (now new) ≡ 32) ⌝ }
     ensures { λ r. ⌜ Spread (λ q s. eqb q p && enters (now (allow .entry)) p2 (rowHas prev) p s) time (now (ys .entry)) (now (new .entry)) (now (times .entry)) (now (ys .exit)) (now (new .exit)) (now (times .exit)) ⌝ }
 {
-    let here = load(ys, p);
+    let here = positions::load(ys, p);
     let extra = load(allow, 16 * p + p2).intersection(prev).difference(here);
     if extra.is_empty() {
         return;
     }
-    store(ys, p, here.union(extra));
-    let fresh = load(new, p);
-    store(new, p, fresh.union(extra));
+    positions::store(ys, p, here.union(extra));
+    let fresh = positions::load(new, p);
+    positions::store(new, p, fresh.union(extra));
+    if times.len() < 2048 {
+        return;
+    }
     mark(extra, p, time, times);
 }
 
@@ -64,22 +62,27 @@ fn grow_one(
 fn grow_from(
     allow: &[u64; 512],
     back: &[u64; 512],
+    into: &[u64; 32],
     t: usize,
     p2: usize,
     time: u16,
-    ys: &mut [u64; 512],
-    new: &mut [u64; 512],
-    times: &mut [u16; 2048],
+    ys: &mut [u64; 32],
+    new: &mut [u64; 32],
+    times: &mut [u16],
 )
-    requires { ⌜ (p2 < t) × (t ≤ 16) × (length (now ys) ≡ 512) × (length (now new) ≡ 512) × (length (now times) ≡ 2048) ⌝ }
+    requires { ⌜ (p2 < t) × (t ≤ 16) × (length (now ys) ≡ 32) × (length (now new) ≡ 32) × Into (now allow) (now into) t ⌝ }
     ensures { λ r. ⌜ Turn (now (allow .entry)) (now (back .entry)) t p2 time (now (ys .entry)) (now (new .entry)) (now (times .entry)) (now (ys .exit)) (now (new .exit)) (now (times .exit)) ⌝ }
 {
-    let prev = before(back, load(new, p2));
-    store(new, p2, Row::empty());
-    let mut p = 0;
-    while p < t {
-        grow_one(allow, p, p2, prev, time, ys, new, times);
-        p += 1;
+    let prev = together(back, positions::load(new, p2));
+    positions::store(new, p2, Row::empty());
+    let mut left = positions::load(into, p2);
+    loop {
+        let u = left.first();
+        if u == 0 {
+            return;
+        }
+        left = left.without(u);
+        grow_one(allow, u as usize - 1, p2, prev, time, ys, new, times);
     }
 }
 
@@ -87,13 +90,14 @@ fn grow_from(
 fn grow_round(
     allow: &[u64; 512],
     back: &[u64; 512],
+    into: &[u64; 32],
     t: usize,
     time: u16,
-    ys: &mut [u64; 512],
-    new: &mut [u64; 512],
-    times: &mut [u16; 2048],
+    ys: &mut [u64; 32],
+    new: &mut [u64; 32],
+    times: &mut [u16],
 ) -> u16
-    requires { ⌜ (t ≤ 16) × (time + left t (now ys) (now new) ≤ 65535) × (length (now ys) ≡ 512) × (length (now new) ≡ 512) × (length (now times) ≡ 2048) ⌝ }
+    requires { ⌜ (t ≤ 16) × (time + left t (now ys) (now new) ≤ 65535) × (length (now ys) ≡ 32) × (length (now new) ≡ 32) × Into (now allow) (now into) t ⌝ }
     ensures turns { λ r. ⌜ Turns (now (allow .entry)) (now (back .entry)) t time r (now (ys .entry)) (now (new .entry)) (now (times .entry)) (now (ys .exit)) (now (new .exit)) (now (times .exit)) ⌝ }
     ensures done { λ r. ⌜ (r ≡ time → NoRows t (now (new .exit))) ⌝ }
 {
@@ -102,8 +106,8 @@ fn grow_round(
     while k < t {
         let p2 = k;
         k += 1;
-        if !load(new, p2).is_empty() {
-            grow_from(allow, back, t, p2, at, ys, new, times);
+        if !positions::load(new, p2).is_empty() {
+            grow_from(allow, back, into, t, p2, at, ys, new, times);
             at += 1;
         }
     }
@@ -111,22 +115,26 @@ fn grow_round(
 }
 
 // `allow` has the nodes at which the automaton may go from p to p2 at row 16 p + p2, `back` the predecessors of node u at row u - 1;
-// t positions, of which `xs` has the first pairs.
-pub fn grow(allow: &[u64; 512], back: &[u64; 512], t: usize, xs: [u64; 512]) -> Growth
-    requires { ⌜ t ≤ 16 ⌝ }
-    ensures { λ r. ⌜ ((n : ℕ) (next : List ℕ) → Transposed n next (now (back .entry)) → UpTo n 256 (now (allow .entry)) → UpTo n t xs → Least (now (allow .entry)) next t xs (r .rows) (r .times)) ⌝ }
+// t positions, of which `xs` has the first pairs; `into` has the positions that each may be entered from. The time at which each other pair
+// is met goes to `times`, if it has room for all pairs.
+pub fn grow(
+    allow: &[u64; 512],
+    back: &[u64; 512],
+    into: &[u64; 32],
+    t: usize,
+    xs: [u64; 32],
+    times: &mut [u16],
+) -> [u64; 32]
+    requires { ⌜ (t ≤ 16) × NoTime (now times) × Into (now allow) (now into) t ⌝ }
+    ensures { λ r. ⌜ ((n : ℕ) (next : List ℕ) → Transposed n next (now (back .entry)) → UpTo n 256 (now (allow .entry)) → UpTo n t xs → Least (now (allow .entry)) next t xs r (now (times .exit))) ⌝ }
 {
     let mut ys = xs;
     let mut new = xs;
-    let mut times = [0u16; 2048];
     let mut time: u16 = 1;
     loop {
-        let next = grow_round(allow, back, t, time, &mut ys, &mut new, &mut times);
+        let next = grow_round(allow, back, into, t, time, &mut ys, &mut new, times);
         if next == time {
-            return Growth {
-                rows: ys,
-                times: times,
-            };
+            return ys;
         }
         time = next;
     }

@@ -2,6 +2,7 @@
 pub mod rows; // rows.rt: a set of nodes as a value
 pub mod structure; // structure.rt: the machine's structure in rows
 pub mod tables; // tables.rt: tables of rows
+pub mod positions; // positions.rt: tables with one row a position
 pub mod product; // product.rt: the automaton of a path line beside the machine
 pub mod trimming; // trimming.rt: the largest set of pairs each of which has a step into it
 pub mod growth; // growth.rt: the pairs from which steps lead into a set

@@ -8,13 +8,14 @@ ghost use Rattle.sheets.specs.Words.{within};
 ghost use Rattle.sheets.specs.Machine as Machine;
 ghost use Rattle.sheets.specs.Rules as Rules;
 ghost use Rattle.truth.specs.Rows.{rowHas, rowsHas};
+ghost use Rattle.truth.specs.Pairs.{NoRow, NoTime};
 ghost use Rattle.truth.specs.OneLine.{LineReady, LineRow, PathReady, PathRow, SolvedLine};
 use crate::growth::grow;
+use crate::positions;
 use crate::product;
 use crate::rows::Row;
 use crate::structure;
 use crate::tables::line_row;
-use crate::tables::load;
 use crate::trimming::trim;
 use sheets::automata;
 use sheets::lines::Decoded;
@@ -22,15 +23,52 @@ use sheets::lines::Line;
 use sheets::lines::decode;
 use sheets::machine;
 
+// The sets of pairs of a path line: the largest lasting set of good pairs, and the pairs that reach it.
+struct Sets {
+    lasting: [u64; 32],
+    reached: [u64; 32],
+}
+
+// Solves line j: automaton x, with accepting and non-accepting exchanged for operation 4. Where the automaton may go is written to an
+// empty table, and times to a table of zeros, if it has room for all pairs.
+fn solve_with(
+    m: &[u16],
+    r: &[u16],
+    next: &[u64; 512],
+    back: &[u64; 512],
+    rows: &[u64],
+    j: u16,
+    x: u16,
+    exchanged: bool,
+    allow: &mut [u64; 512],
+    times: &mut [u16],
+) -> Sets
+    requires { ⌜ (PathReady (now m) (now r) (now next) (now back) (now rows) j x) × (length (now allow) ≡ 512) × ((p : ℕ) → NoRow (now allow) p) × NoTime (now times) ⌝ }
+    ensures { λ a. ⌜ SolvedLine (now (m .entry)) (now (r .entry)) (now (next .entry)) (now (rows .entry)) j x exchanged (now (allow .exit)) (a .lasting) (a .reached) (now (times .exit)) ⌝ }
+{
+    let all = structure::node_row(machine::nodes(m));
+    let t = automata::chain_length(r, x);
+    let mut into = [0u64; 32];
+    let mut onto = [0u64; 32];
+    product::allow_table(r, rows, all, j, x, t, allow, &mut into, &mut onto);
+    let goods = product::good_table(r, all, x, t, exchanged);
+    let lasting = trim(allow, next, back, &into, &onto, t as usize, goods);
+    let reached = grow(allow, back, &into, t as usize, lasting, times);
+    Sets {
+        lasting: lasting,
+        reached: reached,
+    }
+}
+
 // The tables of a path line, solved.
 pub struct Solved {
     pub allow: [u64; 512],
-    pub lasting: [u64; 512],
-    pub reached: [u64; 512],
+    pub lasting: [u64; 32],
+    pub reached: [u64; 32],
     pub times: [u16; 2048],
 }
 
-// Solves line j: automaton x, with accepting and non-accepting exchanged for operation 4.
+// Solves line j with times, by which a path is found.
 pub fn solve(
     m: &[u16],
     r: &[u16],
@@ -44,14 +82,22 @@ pub fn solve(
     requires { ⌜ PathReady (now m) (now r) (now next) (now back) (now rows) j x ⌝ }
     ensures { λ a. ⌜ SolvedLine (now (m .entry)) (now (r .entry)) (now (next .entry)) (now (rows .entry)) j x exchanged (a .allow) (a .lasting) (a .reached) (a .times) ⌝ }
 {
-    let all = structure::node_row(machine::nodes(m));
-    let t = automata::chain_length(r, x);
-    let allow = product::allow_table(r, rows, all, j, x, t);
-    let goods = product::good_table(r, all, x, t, exchanged);
-    let lasting = trim(&allow, next, back, t as usize, goods);
-    let grown = grow(&allow, back, t as usize, lasting);
-    let reached = grown.rows;
-    let times = grown.times;
+    let mut allow = [0u64; 512];
+    let mut times = [0u16; 2048];
+    let sets = solve_with(
+        m,
+        r,
+        next,
+        back,
+        rows,
+        j,
+        x,
+        exchanged,
+        &mut allow,
+        &mut times,
+    );
+    let lasting = sets.lasting;
+    let reached = sets.reached;
     Solved {
         allow: allow,
         lasting: lasting,
@@ -60,7 +106,7 @@ pub fn solve(
     }
 }
 
-// The nodes from which the path of line j exists.
+// The nodes from which the path of line j exists; for them no times are kept.
 pub fn path_row(
     m: &[u16],
     r: &[u16],
@@ -74,9 +120,22 @@ pub fn path_row(
     requires { ⌜ PathReady (now m) (now r) (now next) (now back) (now rows) j x ⌝ }
     ensures { λ row. ⌜ PathRow (now (m .entry)) (now (r .entry)) (now (rows .entry)) j x exchanged (rowHas row) ⌝ }
 {
-    let solved = solve(m, r, next, back, rows, j, x, exchanged);
-    let reached = solved.reached;
-    load(&reached, 0)
+    let mut allow = [0u64; 512];
+    let mut times = [0u16; 1];
+    let sets = solve_with(
+        m,
+        r,
+        next,
+        back,
+        rows,
+        j,
+        x,
+        exchanged,
+        &mut allow,
+        &mut times,
+    );
+    let reached = sets.reached;
+    positions::load(&reached, 0)
 }
 
 // The nodes that the row of line k has not.

@@ -2,7 +2,8 @@
 ghost use mathlib.Core.Path.{_≡_};
 ghost use mathlib.Core.Logic.{_↔_, _⊎_};
 ghost use mathlib.Core.Bool.{true, false, _&&_};
-ghost use Prim.Native.Nat.{ℕ, _+_, _-_, _<_, _≤_};
+ghost use Prim.Native.Nat.{ℕ, _+_, _-_, _*_, _<_, _≤_};
+ghost use lib.ListN.{length};
 ghost use lib.Dec.{T, eqb, leb};
 ghost use Rattle.sheets.specs.Words.{within};
 ghost use Rattle.sheets.specs.Machine as Machine;
@@ -12,6 +13,7 @@ ghost use Rattle.truth.specs.Rows.{rowHas, rowsHas, leadsInto, marksInto
 ghost use Rattle.truth.specs.Targets.{TargetsTaken, Stopped, TailOf, chainLeads};
 ghost use Rattle.truth.specs.Pairs.{Before};
 use crate::rows::Row;
+use crate::tables::line_row;
 use crate::tables::load;
 use crate::tables::store;
 use sheets::along;
@@ -301,18 +303,19 @@ pub fn predecessors(next: &[u64; 512], n: u16) -> [u64; 512]
     out
 }
 
-// The nodes of which one of the row is a successor, where `back` has the predecessors of node u at row u - 1.
-pub fn before(back: &[u64; 512], from: Row) -> Row
-    ensures { λ r. ⌜ ((s : ℕ) → T (rowHas r s) ↔ Before (now (back .entry)) (rowHas from) s) ⌝ }
+// The rows of a table that a set names, together: row u - 1 for each u of the set.
+pub fn together(table: &[u64], set: Row) -> Row
+    requires { ⌜ ((u : ℕ) → T (rowHas set u) → 2 * u ≤ length (now table)) ⌝ }
+    ensures { λ r. ⌜ ((s : ℕ) → T (rowHas r s) ↔ Before (now (table .entry)) (rowHas set) s) ⌝ }
 {
     let mut out = Row::empty();
-    let mut left = from;
+    let mut left = set;
     loop {
         let u = left.first();
         if u == 0 {
             return out;
         }
-        out = out.union(load(back, u as usize - 1));
+        out = out.union(line_row(table, u as usize));
         left = left.without(u);
     }
 }

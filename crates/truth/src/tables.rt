@@ -2,6 +2,7 @@
 ghost use mathlib.Core.Path.{_≡_};
 ghost use Prim.Native.Nat.{_+_, _-_, _*_, _<_, _≤_};
 ghost use lib.ListN.{length, getD, set};
+ghost use Rattle.truth.specs.Links.{Joined};
 use crate::rows::Row;
 
 // Row k of a table.
@@ -44,4 +45,13 @@ pub fn set_line_row(rows: &mut [u64], j: usize, row: Row)
     let k = 2 * (j - 1);
     rows[k] = row.low;
     rows[k + 1] = row.high;
+}
+
+// One member more in row j, rows from 1.
+pub fn add(rows: &mut [u64], j: usize, s: u16)
+    requires { ⌜ (1 ≤ j) × (2 * j ≤ length (now rows)) ⌝ }
+    ensures { λ r. ⌜ Joined (j - 1) s (now (rows .entry)) (now (rows .exit)) ⌝ }
+{
+    let row = line_row(rows, j);
+    set_line_row(rows, j, row.with(s));
 }

@@ -1,71 +1,77 @@
 // The largest set of pairs each of which has a step into it: pairs without one are taken out, and then what had a step to them only.
 ghost use mathlib.Core.Path.{_≡_};
 ghost use mathlib.Core.Logic.{_↔_};
-ghost use Prim.Native.Nat.{ℕ, _+_, _*_, _<_, _≤_};
+ghost use Prim.Native.Nat.{ℕ, _+_, _-_, _*_, _<_, _≤_};
 ghost use mathlib.Core.Bool.{false};
 ghost use mathlib.Core.List.{List};
 ghost use lib.ListN.{length};
 ghost use lib.Dec.{T};
 ghost use Rattle.truth.specs.Rows.{rowHas, rowsHas};
 ghost use Rattle.truth.specs.Pairs.{UpTo, Transposed, Before, NoRow, NoRows, Onward, Greatest};
-ghost use Rattle.truth.specs.Trimmed.{SomeBelow, Common, Stuck, Taken, OwingTo, Moved, Trimmed, Started};
+ghost use Rattle.truth.specs.Links.{Into, Onto, Among};
+ghost use Rattle.truth.specs.Trimmed.{Common, Stuck, Taken, OwingTo, Moved, Trimmed, Started};
+use crate::positions;
 use crate::rows::Row;
-use crate::structure::before;
+use crate::structure::together;
 use crate::tables::load;
-use crate::tables::store;
 
-// Whether p may go at s to a position whose row meets `to`, the successors of s.
-fn steps_into(allow: &[u64; 512], to: Row, t: usize, p: usize, s: u16, xs: &[u64; 512]) -> bool
-    requires { ⌜ (p < 16) × (t ≤ 16) ⌝ }
-    ensures { λ r. ⌜ T r ↔ SomeBelow t (λ k. T (rowsHas (now (allow .entry)) (16 * p + k) s) × Common (rowHas to) (rowsHas (now (xs .entry)) k)) ⌝ }
+// Whether p may go at s to a position of `on` whose row meets `to`, the successors of s.
+fn steps_into(allow: &[u64; 512], to: Row, on: Row, p: usize, s: u16, xs: &[u64; 32]) -> bool
+    requires { ⌜ (p < 16) × ((u : ℕ) → T (rowHas on u) → u ≤ 16) ⌝ }
+    ensures { λ r. ⌜ T r ↔ Among (rowHas on) (λ k. T (rowsHas (now (allow .entry)) (16 * p + k) s) × Common (rowHas to) (rowsHas (now (xs .entry)) k)) ⌝ }
 {
-    let mut k = 0;
-    while k < t {
-        let j = k;
-        k += 1;
-        let may = load(allow, 16 * p + j);
+    let mut left = on;
+    loop {
+        let u = left.first();
+        if u == 0 {
+            return false;
+        }
+        left = left.without(u);
+        let k = u as usize - 1;
+        let may = load(allow, 16 * p + k);
         if may.has(s) {
-            let there = load(xs, j);
+            let there = positions::load(xs, k);
             if to.meets(there) {
                 return true;
             }
         }
     }
-    false
 }
 
 // Whether a step from (p, s), where p may go to p2, leads into the rows: one to p2 is looked for first.
 fn steps_on(
     allow: &[u64; 512],
     next: &[u64; 512],
+    onto: &[u64; 32],
     t: usize,
     p: usize,
     p2: usize,
     s: u16,
-    xs: &[u64; 512],
+    xs: &[u64; 32],
 ) -> bool
-    requires { ⌜ (p < 16) × (p2 < t) × (t ≤ 16) × (1 ≤ s) × (s ≤ 128) × T (rowsHas (now allow) (16 * p + p2) s) ⌝ }
+    requires { ⌜ (p < t) × (p2 < t) × (t ≤ 16) × (1 ≤ s) × (s ≤ 128) × T (rowsHas (now allow) (16 * p + p2) s) × Onto (now allow) (now onto) t ⌝ }
     ensures { λ r. ⌜ T r ↔ Onward (now (allow .entry)) (now (next .entry)) t (rowsHas (now (xs .entry))) p s ⌝ }
 {
     let to = load(next, s as usize - 1);
-    let there = load(xs, p2);
+    let there = positions::load(xs, p2);
     if to.meets(there) {
         return true;
     }
-    steps_into(allow, to, t, p, s, xs)
+    steps_into(allow, to, positions::load(onto, p), p, s, xs)
 }
 
 // The nodes of `look`, at which p may go to p2, from which no step from p leads into the rows.
 fn stuck(
     allow: &[u64; 512],
     next: &[u64; 512],
+    onto: &[u64; 32],
     t: usize,
     p: usize,
     p2: usize,
     look: Row,
-    xs: &[u64; 512],
+    xs: &[u64; 32],
 ) -> Row
-    requires { ⌜ (p < 16) × (p2 < t) × (t ≤ 16) × ((s : ℕ) → T (rowHas look s) → T (rowsHas (now allow) (16 * p + p2) s)) ⌝ }
+    requires { ⌜ (p < t) × (p2 < t) × (t ≤ 16) × ((s : ℕ) → T (rowHas look s) → T (rowsHas (now allow) (16 * p + p2) s)) × Onto (now allow) (now onto) t ⌝ }
     ensures { λ r. ⌜ Stuck (now (allow .entry)) (now (next .entry)) t (now (xs .entry)) p (rowHas look) (rowHas r) ⌝ }
 {
     let mut out = Row::empty();
@@ -76,66 +82,73 @@ fn stuck(
             return out;
         }
         left = left.without(s);
-        if !steps_on(allow, next, t, p, p2, s, xs) {
+        if !steps_on(allow, next, onto, t, p, p2, s, xs) {
             out = out.with(s);
         }
     }
 }
 
 // Takes nodes out of row p, and puts them into row p of `gone`.
-fn take_out(p: usize, lost: Row, xs: &mut [u64; 512], gone: &mut [u64; 512])
-    requires { ⌜ (p < 256) × (length (now xs) ≡ 512) × (length (now gone) ≡ 512) ⌝ }
+fn take_out(p: usize, lost: Row, xs: &mut [u64; 32], gone: &mut [u64; 32])
+    requires { ⌜ (p < 16) × (length (now xs) ≡ 32) × (length (now gone) ≡ 32) ⌝ }
     ensures { λ r. ⌜ Taken p (rowHas lost) (now (xs .entry)) (now (gone .entry)) (now (xs .exit)) (now (gone .exit)) ⌝ }
 {
-    let row = load(xs, p);
-    store(xs, p, row.difference(lost));
-    let others = load(gone, p);
-    store(gone, p, others.union(lost));
+    let row = positions::load(xs, p);
+    positions::store(xs, p, row.difference(lost));
+    let others = positions::load(gone, p);
+    positions::store(gone, p, others.union(lost));
 }
 
 // Takes out of row p what may go to p2 at a node of `pre` and has no step into the rows.
 fn trim_row(
     allow: &[u64; 512],
     next: &[u64; 512],
+    onto: &[u64; 32],
     t: usize,
     p: usize,
     p2: usize,
     pre: Row,
-    xs: &mut [u64; 512],
-    gone: &mut [u64; 512],
+    xs: &mut [u64; 32],
+    gone: &mut [u64; 32],
 )
-    requires { ⌜ (p < t) × (p2 < t) × (t ≤ 16) × (length (now xs) ≡ 512) × (length (now gone) ≡ 512) ⌝ }
+    requires { ⌜ (p < t) × (p2 < t) × (t ≤ 16) × (length (now xs) ≡ 32) × (length (now gone) ≡ 32) × Onto (now allow) (now onto) t ⌝ }
     ensures moved { λ r. ⌜ Moved (now (allow .entry)) (now (next .entry)) t (now (xs .entry)) (now (gone .entry)) (now (xs .exit)) (now (gone .exit)) ⌝ }
     ensures owing { λ r. ⌜ OwingTo (now (allow .entry)) (now (next .entry)) t p2 (rowHas pre) (now (xs .exit)) (now (gone .exit)) p ⌝ }
 {
     let may = load(allow, 16 * p + p2);
-    let row = load(xs, p);
+    let row = positions::load(xs, p);
     let look = row.intersection(may).intersection(pre);
     if look.is_empty() {
         return;
     }
-    let lost = stuck(allow, next, t, p, p2, look, xs);
+    let lost = stuck(allow, next, onto, t, p, p2, look, xs);
     take_out(p, lost, xs, gone);
 }
 
-// So for each row.
+// So for each row that `from` names.
 fn trim_into(
     allow: &[u64; 512],
     next: &[u64; 512],
+    onto: &[u64; 32],
     t: usize,
     p2: usize,
+    from: Row,
     pre: Row,
-    xs: &mut [u64; 512],
-    gone: &mut [u64; 512],
+    xs: &mut [u64; 32],
+    gone: &mut [u64; 32],
 )
-    requires { ⌜ (p2 < t) × (t ≤ 16) × (length (now xs) ≡ 512) × (length (now gone) ≡ 512) ⌝ }
+    requires { ⌜ (p2 < t) × (t ≤ 16) × (length (now xs) ≡ 32) × (length (now gone) ≡ 32) × ((u : ℕ) → T (rowHas from u) → u ≤ t) × Onto (now allow) (now onto) t ⌝ }
     ensures moved { λ r. ⌜ Moved (now (allow .entry)) (now (next .entry)) t (now (xs .entry)) (now (gone .entry)) (now (xs .exit)) (now (gone .exit)) ⌝ }
-    ensures owing { λ r. ⌜ ((p : ℕ) → p < t → OwingTo (now (allow .entry)) (now (next .entry)) t p2 (rowHas pre) (now (xs .exit)) (now (gone .exit)) p) ⌝ }
+    ensures owing { λ r. ⌜ ((u : ℕ) → T (rowHas from u) → OwingTo (now (allow .entry)) (now (next .entry)) t p2 (rowHas pre) (now (xs .exit)) (now (gone .exit)) (u - 1)) ⌝ }
 {
-    let mut p = 0;
-    while p < t {
-        trim_row(allow, next, t, p, p2, pre, xs, gone);
-        p += 1;
+    let mut left = from;
+    loop {
+        let u = left.first();
+        if u == 0 {
+            return;
+        }
+        left = left.without(u);
+        trim_row(allow, next, onto, t, u as usize - 1, p2, pre, xs, gone);
     }
 }
 
@@ -144,22 +157,34 @@ fn trim_from(
     allow: &[u64; 512],
     next: &[u64; 512],
     back: &[u64; 512],
+    into: &[u64; 32],
+    onto: &[u64; 32],
     t: usize,
     p2: usize,
-    xs: &mut [u64; 512],
-    gone: &mut [u64; 512],
+    xs: &mut [u64; 32],
+    gone: &mut [u64; 32],
 ) -> bool
-    requires { ⌜ (p2 < t) × (t ≤ 16) × (length (now xs) ≡ 512) × (length (now gone) ≡ 512) ⌝ }
+    requires { ⌜ (p2 < t) × (t ≤ 16) × (length (now xs) ≡ 32) × (length (now gone) ≡ 32) × Into (now allow) (now into) t × Onto (now allow) (now onto) t ⌝ }
     ensures trimmed { λ r. ⌜ Trimmed (now (allow .entry)) (now (next .entry)) (now (back .entry)) t (now (xs .entry)) (now (gone .entry)) (now (xs .exit)) (now (gone .exit)) r ⌝ }
     ensures none { λ r. ⌜ (r ≡ false → NoRow (now (gone .exit)) p2) ⌝ }
 {
-    let from = load(gone, p2);
+    let from = positions::load(gone, p2);
     if from.is_empty() {
         return false;
     }
-    store(gone, p2, Row::empty());
-    let pre = before(back, from);
-    trim_into(allow, next, t, p2, pre, xs, gone);
+    positions::store(gone, p2, Row::empty());
+    let pre = together(back, from);
+    trim_into(
+        allow,
+        next,
+        onto,
+        t,
+        p2,
+        positions::load(into, p2),
+        pre,
+        xs,
+        gone,
+    );
     true
 }
 
@@ -168,11 +193,13 @@ fn trim_round(
     allow: &[u64; 512],
     next: &[u64; 512],
     back: &[u64; 512],
+    into: &[u64; 32],
+    onto: &[u64; 32],
     t: usize,
-    xs: &mut [u64; 512],
-    gone: &mut [u64; 512],
+    xs: &mut [u64; 32],
+    gone: &mut [u64; 32],
 ) -> bool
-    requires { ⌜ (t ≤ 16) × (length (now xs) ≡ 512) × (length (now gone) ≡ 512) ⌝ }
+    requires { ⌜ (t ≤ 16) × (length (now xs) ≡ 32) × (length (now gone) ≡ 32) × Into (now allow) (now into) t × Onto (now allow) (now onto) t ⌝ }
     ensures trimmed { λ r. ⌜ Trimmed (now (allow .entry)) (now (next .entry)) (now (back .entry)) t (now (xs .entry)) (now (gone .entry)) (now (xs .exit)) (now (gone .exit)) r ⌝ }
     ensures none { λ r. ⌜ (r ≡ false → NoRows t (now (gone .exit))) ⌝ }
 {
@@ -181,7 +208,7 @@ fn trim_round(
     while k < t {
         let p2 = k;
         k += 1;
-        if trim_from(allow, next, back, t, p2, xs, gone) {
+        if trim_from(allow, next, back, into, onto, t, p2, xs, gone) {
             changed = true;
         }
     }
@@ -189,52 +216,57 @@ fn trim_round(
 }
 
 // For each row, what is before it.
-fn befores(back: &[u64; 512], t: usize, xs: &[u64; 512]) -> [u64; 512]
+fn befores(back: &[u64; 512], t: usize, xs: &[u64; 32]) -> [u64; 32]
     requires { ⌜ t ≤ 16 ⌝ }
     ensures { λ r. ⌜ ((k s : ℕ) → k < t → T (rowsHas r k s) ↔ Before (now (back .entry)) (rowsHas (now (xs .entry)) k) s) ⌝ }
 {
-    let mut out = [0u64; 512];
+    let mut out = [0u64; 32];
     let mut k = 0;
     while k < t {
-        let row = load(xs, k);
-        let pre = before(back, row);
-        store(&mut out, k, pre);
+        let row = positions::load(xs, k);
+        let pre = together(back, row);
+        positions::store(&mut out, k, pre);
         k += 1;
     }
     out
 }
 
-// The nodes at which p may go to a position whose row of the table has them.
-fn goes_on(allow: &[u64; 512], table: &[u64; 512], t: usize, p: usize) -> Row
-    requires { ⌜ (p < 16) × (t ≤ 16) ⌝ }
-    ensures { λ r. ⌜ ((s : ℕ) → T (rowHas r s) ↔ SomeBelow t (λ k. T (rowsHas (now (allow .entry)) (16 * p + k) s) × T (rowsHas (now (table .entry)) k s))) ⌝ }
+// The nodes at which p may go to a position of `on` whose row of the table has them.
+fn goes_on(allow: &[u64; 512], table: &[u64; 32], on: Row, p: usize) -> Row
+    requires { ⌜ (p < 16) × ((u : ℕ) → T (rowHas on u) → u ≤ 16) ⌝ }
+    ensures { λ r. ⌜ ((s : ℕ) → T (rowHas r s) ↔ Among (rowHas on) (λ k. T (rowsHas (now (allow .entry)) (16 * p + k) s) × T (rowsHas (now (table .entry)) k s))) ⌝ }
 {
     let mut out = Row::empty();
-    let mut k = 0;
-    while k < t {
+    let mut left = on;
+    loop {
+        let u = left.first();
+        if u == 0 {
+            return out;
+        }
+        left = left.without(u);
+        let k = u as usize - 1;
         let may = load(allow, 16 * p + k);
-        let there = load(table, k);
+        let there = positions::load(table, k);
         out = out.union(may.intersection(there));
-        k += 1;
     }
-    out
 }
 
 // Takes out of row p what has nothing ahead.
 fn start_row(
     allow: &[u64; 512],
-    table: &[u64; 512],
+    table: &[u64; 32],
+    onto: &[u64; 32],
     t: usize,
     p: usize,
-    xs: &mut [u64; 512],
-    gone: &mut [u64; 512],
+    xs: &mut [u64; 32],
+    gone: &mut [u64; 32],
 )
-    requires { ⌜ (p < t) × (t ≤ 16) × (length (now xs) ≡ 512) × (length (now gone) ≡ 512) ⌝ }
+    requires { ⌜ (p < t) × (t ≤ 16) × (length (now xs) ≡ 32) × (length (now gone) ≡ 32) × Onto (now allow) (now onto) t ⌝ }
     ensures { λ r. ⌜ ((back start : List ℕ) → ((k s : ℕ) → k < t → T (rowsHas (now (table .entry)) k s) ↔ Before back (rowsHas start k) s) → Started (now (allow .entry)) back t p start (now (xs .entry)) (now (gone .entry)) → Started (now (allow .entry)) back t (p + 1) start (now (xs .exit)) (now (gone .exit))) ⌝ }
-    ensures { λ r. ⌜ (length (now (xs .exit)) ≡ 512) × (length (now (gone .exit)) ≡ 512) ⌝ }
+    ensures { λ r. ⌜ (length (now (xs .exit)) ≡ 32) × (length (now (gone .exit)) ≡ 32) ⌝ }
 {
-    let on = goes_on(allow, table, t, p);
-    let row = load(xs, p);
+    let on = goes_on(allow, table, positions::load(onto, p), p);
+    let row = positions::load(xs, p);
     let lost = row.difference(on);
     take_out(p, lost, xs, gone);
 }
@@ -243,39 +275,43 @@ fn start_row(
 fn trim_first(
     allow: &[u64; 512],
     back: &[u64; 512],
+    onto: &[u64; 32],
     t: usize,
-    xs: &mut [u64; 512],
-    gone: &mut [u64; 512],
+    xs: &mut [u64; 32],
+    gone: &mut [u64; 32],
 )
-    requires { ⌜ (t ≤ 16) × (length (now xs) ≡ 512) × (length (now gone) ≡ 512) × ((p : ℕ) → NoRow (now gone) p) ⌝ }
+    requires { ⌜ (t ≤ 16) × (length (now xs) ≡ 32) × (length (now gone) ≡ 32) × ((p : ℕ) → NoRow (now gone) p) × Onto (now allow) (now onto) t ⌝ }
     ensures { λ r. ⌜ Started (now (allow .entry)) (now (back .entry)) t t (now (xs .entry)) (now (xs .exit)) (now (gone .exit)) ⌝ }
-    ensures { λ r. ⌜ length (now (gone .exit)) ≡ 512 ⌝ }
+    ensures { λ r. ⌜ length (now (gone .exit)) ≡ 32 ⌝ }
 {
     let table = befores(back, t, xs);
     let mut p = 0;
     while p < t {
-        start_row(allow, &table, t, p, xs, gone);
+        start_row(allow, &table, onto, t, p, xs, gone);
         p += 1;
     }
 }
 
 // `allow` has the nodes at which the automaton may go from p to p2 at row 16 p + p2, `next` and `back` the successors and predecessors
-// of node u at row u - 1; t positions, of which `xs` has the first pairs.
+// of node u at row u - 1; t positions, of which `xs` has the first pairs; `into` and `onto` have the positions that each may be entered
+// from and may go to.
 pub fn trim(
     allow: &[u64; 512],
     next: &[u64; 512],
     back: &[u64; 512],
+    into: &[u64; 32],
+    onto: &[u64; 32],
     t: usize,
-    xs: [u64; 512],
-) -> [u64; 512]
-    requires { ⌜ t ≤ 16 ⌝ }
+    xs: [u64; 32],
+) -> [u64; 32]
+    requires { ⌜ (t ≤ 16) × Into (now allow) (now into) t × Onto (now allow) (now onto) t ⌝ }
     ensures { λ r. ⌜ ((n : ℕ) → Transposed n (now (next .entry)) (now (back .entry)) → UpTo n t xs → Greatest (now (allow .entry)) (now (next .entry)) t xs r) ⌝ }
 {
     let mut rows = xs;
-    let mut gone = [0u64; 512];
-    trim_first(allow, back, t, &mut rows, &mut gone);
+    let mut gone = [0u64; 32];
+    trim_first(allow, back, onto, t, &mut rows, &mut gone);
     loop {
-        if !trim_round(allow, next, back, t, &mut rows, &mut gone) {
+        if !trim_round(allow, next, back, into, onto, t, &mut rows, &mut gone) {
             return rows;
         }
     }

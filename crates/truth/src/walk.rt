@@ -7,6 +7,7 @@ ghost use Rattle.truth.specs.Rows.{rowHas, rowsHas, First};
 ghost use Rattle.truth.specs.Pairs.{Steps, Onward, Sooner, timeOf};
 ghost use Rattle.truth.specs.Walked.{Looped, Walkable, placed};
 ghost use Rattle.truth.specs.Walking.{entered, Advances};
+use crate::positions;
 use crate::rows::Row;
 use crate::tables::load;
 
@@ -25,18 +26,18 @@ struct Pair {
 }
 
 // The nodes of row k of the set that a step leads to from (p, u).
-fn reached(allow: &[u64; 512], next: &[u64; 512], set: &[u64; 512], p: u16, u: u16, k: usize) -> Row
+fn reached(allow: &[u64; 512], next: &[u64; 512], set: &[u64; 32], p: u16, u: u16, k: usize) -> Row
     requires { ⌜ (p < 16) × (k < 16) × (1 ≤ u) × (u ≤ 128) ⌝ }
     ensures { λ r. ⌜ ((v : ℕ) → rowHas r v ≡ entered (now (allow .entry)) (now (next .entry)) (now (set .entry)) p u k v) ⌝ }
 {
     if !load(allow, 16 * p as usize + k).has(u) {
         return Row::empty();
     }
-    load(next, u as usize - 1).intersection(load(set, k))
+    load(next, u as usize - 1).intersection(positions::load(set, k))
 }
 
 // A pair of the set that a step leads to from (p, u), which there is.
-fn onward(allow: &[u64; 512], next: &[u64; 512], t: usize, set: &[u64; 512], p: u16, u: u16) -> Pair
+fn onward(allow: &[u64; 512], next: &[u64; 512], t: usize, set: &[u64; 32], p: u16, u: u16) -> Pair
     requires { ⌜ (t ≤ 16) × (p < 16) × (1 ≤ u) × (u ≤ 128) × Onward (now allow) (now next) t (rowsHas (now set)) p u ⌝ }
     ensures { λ r. ⌜ Steps (now (allow .entry)) (now (next .entry)) t p u (r .position) (r .node) × T (rowsHas (now (set .entry)) (r .position) (r .node)) ⌝ }
 {
@@ -80,7 +81,7 @@ fn sooner(
     allow: &[u64; 512],
     next: &[u64; 512],
     t: usize,
-    set: &[u64; 512],
+    set: &[u64; 32],
     times: &[u16; 2048],
     p: u16,
     u: u16,
@@ -111,8 +112,8 @@ fn advance(
     allow: &[u64; 512],
     next: &[u64; 512],
     t: usize,
-    xs: &[u64; 512],
-    ys: &[u64; 512],
+    xs: &[u64; 32],
+    ys: &[u64; 32],
     times: &[u16; 2048],
     p: u16,
     u: u16,
@@ -120,7 +121,7 @@ fn advance(
     requires { ⌜ ((n s : ℕ) × Walkable (now allow) (now next) t n (now xs) (now ys) (now times) s) × (p < t) × T (rowsHas (now ys) p u) ⌝ }
     ensures { λ r. ⌜ Advances (now (allow .entry)) (now (next .entry)) t (now (xs .entry)) (now (ys .entry)) (now (times .entry)) p u (r .position) (r .node) ⌝ }
 {
-    if load(xs, p as usize).has(u) {
+    if positions::load(xs, p as usize).has(u) {
         return onward(allow, next, t, xs, p, u);
     }
     sooner(allow, next, t, ys, times, p, u)
@@ -132,8 +133,8 @@ pub fn walk<'a>(
     next: &[u64; 512],
     t: usize,
     n: u16,
-    xs: &'a [u64; 512],
-    ys: &'a [u64; 512],
+    xs: &'a [u64; 32],
+    ys: &'a [u64; 32],
     times: &'a [u16; 2048],
     s: u16,
 ) -> Trail

@@ -5,10 +5,9 @@ use Prim.Native.Nat.{ℕ, _+_, _-_, _*_, _≤_, _<_}
 use native.Mathlib.Omega.{arith}
 use mathlib.Core.List.{List}
 use mathlib.Core.Bool.{false, not}
-use lib.ListN.{getD}
 use Rattle.sheets.specs.Words.{each}
 use Rattle.truth.specs.Rows.{rowsHas}
-use Rattle.truth.specs.Pairs.{UpTo, NoRows, here, Least}
+use Rattle.truth.specs.Pairs.{UpTo, NoRows, here, NoTime, Least}
 use Rattle.truth.specs.Growing.{Turn, Growing, Turns}
 use Rattle.truth.proofs.rows.RowLaws.{one-passes}
 use Rattle.truth.proofs.growth.GrowthTurn.{turn-fewer, turn-grows}
@@ -51,15 +50,15 @@ module _ {allow back : List ℕ} {t : ℕ} where
 
 -- ---- the first turn and the last
 module _ {allow next : List ℕ} {n t : ℕ} {xs : List ℕ} where
-  pub growing-first : (times : List ℕ) → ((i : ℕ) → getD times i 0 ≡ 0) → UpTo n t xs → Growing allow next n t xs xs xs times 1
+  pub growing-first : (times : List ℕ) → NoTime times → UpTo n t xs → Growing allow next n t xs xs xs times 1
   growing-first times zeros upTo = record {
     keeps = λ p s h x. x;
     reaches = λ p s h x. here x;
     fresh = λ p s h x. x;
     upTo = upTo;
     done = λ p s p′ s′ h st x. inr x;
-    falls = λ p s h x. inl x;
-    early = λ p s h x. omega (arith, zeros (128 * p + (s - 1)));
+    falls = λ r p s h x. inl x;
+    early = λ r p s h x. omega (arith, zeros (128 * p + (s - 1)));
   }
 
   pub growing-last : {ys new times : List ℕ} {time : ℕ} → Growing allow next n t xs ys new times time → NoRows t new → Least allow next t xs ys times

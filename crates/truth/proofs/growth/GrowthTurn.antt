@@ -9,7 +9,7 @@ use mathlib.Core.Bool.{Bool, not, _&&_}
 use lib.Dec.{T, T-not, not-T, eqb, ltb, lt→ltb, eqb→eq, eqb-refl}
 use Rattle.sheets.proofs.Tests.{test, contrary, twice-not, and-left, and-right, and-both, or-left, or-right, or-cases}
 use Rattle.truth.specs.Rows.{rowsHas}
-use Rattle.truth.specs.Pairs.{Steps, UpTo, Transposed, there, timeOf, Sooner}
+use Rattle.truth.specs.Pairs.{Steps, UpTo, Transposed, there, timeOf, Timed, Sooner}
 use Rattle.truth.specs.Growing.{enters, below, Turn, left, Growing}
 use Rattle.truth.proofs.rows.RowLaws.{held-in}
 use Rattle.truth.proofs.structure.EdgesBack.{back-of, edge-of}
@@ -96,26 +96,30 @@ module _ {allow back : List ℕ} {t p′ time : ℕ} {ys new times ys′ new′ 
         old : T (rowsHas ys q s′) → T (rowsHas ys′ p s) ⊎ T (rowsHas new′ q s′)
         old y = ⊎-elim (λ z. inl (still p s z)) waiting (g .done p s q s′ h st y)
 
-    falls : (p s : ℕ) → p < t → T (rowsHas ys′ p s) → T (rowsHas xs p s) ⊎ Sooner allow next t ys′ times′ p s
-    falls p s h x = ⊎-elim old new-one (test (rowsHas ys p s))
+    -- times are kept as before
+    kept-room : Timed times′ → Timed times
+    kept-room = λ r. rw (turn .spread .times-size) at r
+
+    falls : Timed times′ → (p s : ℕ) → p < t → T (rowsHas ys′ p s) → T (rowsHas xs p s) ⊎ Sooner allow next t ys′ times′ p s
+    falls room p s h x = ⊎-elim old new-one (test (rowsHas ys p s))
       where
         old : T (rowsHas ys p s) → T (rowsHas xs p s) ⊎ Sooner allow next t ys′ times′ p s
         old y =
             ⊎-map (λ z. z)
             (λ r. (r .0, r .1, r .2, still (r .0) (r .1) (r .3), rw (turn .spread .kept (r .0) (r .1) (r .3), turn .spread .kept p s y) (r .4)))
-            (g .falls p s h y)
+            (g .falls (kept-room room) p s h y)
 
         new-one : T (not (rowsHas ys p s)) → T (rowsHas xs p s) ⊎ Sooner allow next t ys′ times′ p s
         new-one m =
             ⊎-elim (λ y. absurd (T-not (rowsHas ys p s) m y))
             (λ y. let r = e-step p s y in
-            inr (p′, r .0, r .1, still p′ (r .0) (r .2), rw (turn .spread .kept p′ (r .0) (r .2), turn .spread .timed p s m y) (g .early p′ (r .0) below-t (r .2))))
+            inr (p′, r .0, r .1, still p′ (r .0) (r .2), rw (turn .spread .kept p′ (r .0) (r .2), turn .spread .timed (kept-room room) p s m y) (g .early (kept-room room) p′ (r .0) below-t (r .2))))
             (met-cases p s x)
 
-    early : (p s : ℕ) → p < t → T (rowsHas ys′ p s) → timeOf times′ p s < time + 1
-    early p s h x =
-        ⊎-elim (λ y. omega (arith, turn .spread .kept p s y, g .early p s h y))
-        (λ m. ⊎-elim (λ y. absurd (T-not (rowsHas ys p s) m y)) (λ y. omega (arith, turn .spread .timed p s m y)) (met-cases p s x)) (test (rowsHas ys p s))
+    early : Timed times′ → (p s : ℕ) → p < t → T (rowsHas ys′ p s) → timeOf times′ p s < time + 1
+    early room p s h x =
+        ⊎-elim (λ y. omega (arith, turn .spread .kept p s y, g .early (kept-room room) p s h y))
+        (λ m. ⊎-elim (λ y. absurd (T-not (rowsHas ys p s) m y)) (λ y. omega (arith, turn .spread .timed (kept-room room) p s m y)) (met-cases p s x)) (test (rowsHas ys p s))
 
     pub turn-grows : Growing allow next n t xs ys′ new′ times′ (time + 1)
     turn-grows = record {

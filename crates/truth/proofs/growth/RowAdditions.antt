@@ -10,7 +10,7 @@ use lib.Dec.{T, T-not, not-T, eqb, eqb→eq}
 use Rattle.sheets.specs.Words.{each}
 use Rattle.sheets.proofs.Tests.{failed, and-left, and-right, and-both, eqb-same, eqb-other}
 use Rattle.truth.specs.Rows.{held, rowsHas}
-use Rattle.truth.specs.Pairs.{timeOf}
+use Rattle.truth.specs.Pairs.{timeOf, Timed}
 use Rattle.truth.specs.Growing.{Marked, Spread}
 use Rattle.truth.proofs.rows.RowLaws.{held-in, none-passes}
 
@@ -33,10 +33,10 @@ module _ (E x : ℕ → Bool) (p time : ℕ) (ys new times ys′ new′ times′
         let r = held-in _ _ s t in
         marked .rest q s (r .0) (r .1) (λ e. not-T (x s) (λ y. T-not (rowsHas ys p s) (and-right (E s) (not (rowsHas ys p s)) (rw (x-is s) at y)) (rw e at t)))
 
-    timed-is : (q s : ℕ) → T (not (rowsHas ys q s)) → T (eqb q p && E s) → timeOf times′ q s ≡ time
-    timed-is q s n t =
+    timed-is : Timed times → (q s : ℕ) → T (not (rowsHas ys q s)) → T (eqb q p && E s) → timeOf times′ q s ≡ time
+    timed-is h q s n t =
         let e = eqb→eq q p (and-left (eqb q p) (E s) t) in
-        rw e (marked .marks s (rw (x-is s) (and-both (E s) (not (rowsHas ys p s)) (and-right (eqb q p) (E s) t) (rw e at n))))
+        rw e (marked .marks h s (rw (x-is s) (and-both (E s) (not (rowsHas ys p s)) (and-right (eqb q p) (E s) t) (rw e at n))))
 
     pub spread-one : Spread (λ q s. eqb q p && E s) time ys new times ys′ new′ times′
     spread-one = record {
@@ -54,10 +54,14 @@ module _ (E : ℕ → Bool) (a b p time : ℕ) (ys new times : List ℕ) (x-is :
   pub spread-empty : true ≡ each 128 (λ s. not (held a b s)) → Spread (λ q s. eqb q p && E s) time ys new times ys new times
   spread-empty e =
       spread-one E (held a b) p time ys new times ys new times x-is refl refl (λ q s. unchanged (rowsHas ys q s) q s) (λ q s. unchanged (rowsHas new q s) q s)
-      (record { size = refl; marks = λ s t. absurd (rw (gone s) at t); rest = λ q s lo hi n. refl })
+      (record { size = refl; marks = λ h s t. absurd (rw (gone s) at t); rest = λ q s lo hi n. refl })
     where
       gone : (s : ℕ) → held a b s ≡ false
       gone s = failed (held a b s) (not-T (held a b s) (none-passes (held a b) (held-in a b) (sym e) s))
 
       unchanged : (y : Bool) (q s : ℕ) → y ≡ (y || (eqb q p && held a b s))
       unchanged y q s = rw (gone s, and-false (eqb q p), or-false y)
+
+-- no time is written where none is kept
+pub unmarked : {f : ℕ → Bool} {p time : ℕ} {times : List ℕ} → (Timed times → ⊥) → Marked f p time times times
+unmarked none = record { size = refl; marks = λ h s t. absurd (none h); rest = λ q s lo hi n. refl }

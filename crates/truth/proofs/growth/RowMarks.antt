@@ -25,7 +25,7 @@ module _ (f : ℕ → Bool) (inside : (s : ℕ) → T (f s) → (1 ≤ s) × (s 
   pub marking-all : (rest : ℕ → Bool) (times′ : List ℕ) → Marking f rest p time times times′ → ((s : ℕ) → T (rest s) → ⊥) → Marked f p time times times′
   marking-all rest times′ m none = record {
     size = m .size;
-    marks = λ s t. ⊎-elim (λ x. absurd (none s x)) (λ x. x) (m .marks s t);
+    marks = λ h s t. ⊎-elim (λ x. absurd (none s x)) (λ x. x) (m .marks s t);
     rest = m .others;
   }
 

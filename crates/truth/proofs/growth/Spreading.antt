@@ -1,15 +1,18 @@
--- Pairs added to a table: additions after each other, those of the positions below a number, and what is new after a turn.
-use mathlib.Core.Path.{_≡_, refl, sym, _∙_}
-use mathlib.Core.Logic.{⊎-elim}
-use Prim.Native.Nat.{ℕ, _+_}
+-- Pairs added to a table: additions after each other, those of the members of a set, and what is new after a turn.
+use mathlib.Core.Path.{_≡_, refl, subst, fun-ext, _∙_}
+use mathlib.Core.Logic.{⊎-elim, by-cases}
+use Prim.Native.Nat.{ℕ, _+_, _-_, _≤_, _<_}
+use native.Mathlib.Omega.{arith}
+use native.Mathlib.Decide.{ℕ-discrete}
 use mathlib.Core.List.{List}
-use mathlib.Core.Bool.{Bool, true, false, not, _&&_, _||_, and-true, and-false, or-false, or-assoc}
-use lib.Dec.{T, eqb}
-use Rattle.sheets.proofs.Tests.{test, passed, failed, or-left, or-right}
-use Rattle.sheets.proofs.Positions.{upTo-none, upTo-yes, upTo-no}
+use mathlib.Core.Bool.{Bool, true, false, not, _&&_, _||_, and-true, or-false, or-assoc}
+use lib.Dec.{T, not-T, eqb, ltb, lt→ltb, ltb→lt}
+use Rattle.sheets.proofs.Tests.{test, passed, failed, and-left, and-right, and-both, or-left, or-right, eqb-same, eqb-other}
+use Rattle.sheets.proofs.Positions.{same-tests}
 use Rattle.truth.specs.Rows.{rowsHas}
-use Rattle.truth.specs.Pairs.{timeOf}
+use Rattle.truth.specs.Pairs.{timeOf, Timed}
 use Rattle.truth.specs.Growing.{Spread, enters, below, Turn}
+use Rattle.truth.proofs.rows.RowWalks.{Less}
 
 -- ---- additions after each other
 or-fresh : (n y e f : Bool) → ((n || (e && not y)) || (f && not (y || e))) ≡ (n || ((e || f) && not y))
@@ -32,7 +35,7 @@ module _ {e : ℕ → ℕ → Bool} {time : ℕ} {ys new times : List ℕ} where
     met = λ p s. rw (none p s, or-false (rowsHas ys p s));
     fresh = λ p s. rw (none p s, or-false (rowsHas new p s));
     kept = λ p s t. refl;
-    timed = λ p s n t. absurd (rw (none p s) at t);
+    timed = λ h p s n t. absurd (rw (none p s) at t);
   }
 
   module _ {f g : ℕ → ℕ → Bool} (join : (p s : ℕ) → g p s ≡ (e p s || f p s)) {ys′ new′ times′ ys″ new″ times″ : List ℕ}
@@ -40,10 +43,10 @@ module _ {e : ℕ → ℕ → Bool} {time : ℕ} {ys new times : List ℕ} where
     kept-on : (p s : ℕ) → T (rowsHas ys p s || e p s) → timeOf times″ p s ≡ timeOf times′ p s
     kept-on p s t = two .kept p s (rw (one .met p s) t)
 
-    timed-on : (p s : ℕ) → T (not (rowsHas ys p s)) → T (g p s) → timeOf times″ p s ≡ time
-    timed-on p s n t =
-        ⊎-elim (λ x. kept-on p s (or-right (rowsHas ys p s) (e p s) x) ∙ one .timed p s n x)
-        (λ x. two .timed p s (rw (one .met p s, failed (rowsHas ys p s) n) x) (rest x)) (test (e p s))
+    timed-on : Timed times → (p s : ℕ) → T (not (rowsHas ys p s)) → T (g p s) → timeOf times″ p s ≡ time
+    timed-on h p s n t =
+        ⊎-elim (λ x. kept-on p s (or-right (rowsHas ys p s) (e p s) x) ∙ one .timed h p s n x)
+        (λ x. two .timed (rw (one .times-size) h) p s (rw (one .met p s, failed (rowsHas ys p s) n) x) (rest x)) (test (e p s))
       where
         rest : T (not (e p s)) → T (f p s)
         rest x = rw (join p s, failed (e p s) x) at t
@@ -59,19 +62,49 @@ module _ {e : ℕ → ℕ → Bool} {time : ℕ} {ys new times : List ℕ} where
       timed = timed-on;
     }
 
--- ---- the pairs of the positions below k
-module _ (e : ℕ → ℕ → Bool) where
-  pub below-none : (p s : ℕ) → below 0 e p s ≡ false
-  below-none p s = upTo-none (λ q. e q s) p
+-- ---- the same pairs
+pub spread-same : {e f : ℕ → ℕ → Bool} {time : ℕ} {ys new times ys′ new′ times′ : List ℕ} → ((p s : ℕ) → e p s ≡ f p s)
+    → Spread e time ys new times ys′ new′ times′ → Spread f time ys new times ys′ new′ times′
+spread-same {time = time} {ys} {new} {times} {ys′} {new′} {times′} same =
+    subst (λ (g : ℕ → ℕ → Bool). Spread g time ys new times ys′ new′ times′) (fun-ext (λ p. fun-ext (same p)))
 
-  pub below-next : (k p s : ℕ) → below (k + 1) e p s ≡ (below k e p s || (eqb p k && e k s))
-  below-next k p s = ⊎-elim yes no (test (e k s))
+-- ---- the pairs of the members of `from` that are not left
+abbrev pub among : (ℕ → Bool) → (ℕ → Bool) → (ℕ → ℕ → Bool) → ℕ → ℕ → Bool
+among from left e p s = (from (p + 1) && not (left (p + 1))) && e p s
+
+and-not : (a b : Bool) → ((a && not a) && b) ≡ false
+and-not true b = refl
+and-not false b = refl
+
+module _ (from : ℕ → Bool) (e : ℕ → ℕ → Bool) where
+  pub among-none : (p s : ℕ) → among from from e p s ≡ false
+  among-none p s = and-not (from (p + 1)) (e p s)
+
+  pub among-next : (left left′ : ℕ → Bool) (u : ℕ) → Less left u left′ → T (left u) → T (from u) → 1 ≤ u → (p s : ℕ)
+      → among from left′ e p s ≡ (among from left e p s || (eqb p (u - 1) && e (u - 1) s))
+  among-next left left′ u less t f lo p s = by-cases (ℕ-discrete p (u - 1)) here other
     where
-      yes : T (e k s) → below (k + 1) e p s ≡ (below k e p s || (eqb p k && e k s))
-      yes t = let h = passed (e k s) t in rw (h, and-true (eqb p k)) (sym (upTo-yes (λ q. e q s) p k (below k e p s) refl h))
+      here : p ≡ u - 1 → among from left′ e p s ≡ (among from left e p s || (eqb p (u - 1) && e (u - 1) s))
+      here d =
+          let h : u - 1 + 1 ≡ u = omega arith in
+          rw (d, h, less u, passed (from u) f, passed (left u) t, eqb-same u, eqb-same (u - 1))
 
-      no : T (not (e k s)) → below (k + 1) e p s ≡ (below k e p s || (eqb p k && e k s))
-      no t = let h = failed (e k s) t in rw (h, and-false (eqb p k), or-false (below k e p s)) (sym (upTo-no (λ q. e q s) p k (below k e p s) refl h))
+      other : (p ≡ u - 1 → ⊥) → among from left′ e p s ≡ (among from left e p s || (eqb p (u - 1) && e (u - 1) s))
+      other n =
+          let m : p + 1 ≡ u → ⊥ = λ q. n (omega arith) in
+          rw (less (p + 1), eqb-other (p + 1) u m, eqb-other p (u - 1) n, and-true (left (p + 1)), or-false (among from left e p s))
+
+  -- none is left, and the others have no pair
+  pub among-end : (left : ℕ → Bool) (t : ℕ) → ((u : ℕ) → T (left u) → ⊥) → ((u : ℕ) → T (from u) → u ≤ t) → ((p s : ℕ) → p < t → T (e p s) → T (from (p + 1)))
+      → (p s : ℕ) → among from left e p s ≡ below t e p s
+  among-end left t none few all p s =
+      same-tests (among from left e p s) (below t e p s)
+      (λ x. let f = and-left (from (p + 1)) (not (left (p + 1))) (and-left (from (p + 1) && not (left (p + 1))) (e p s) x) in
+      let l = few (p + 1) f in
+      and-both (ltb p t) (e p s) (lt→ltb p t (omega arith)) (and-right (from (p + 1) && not (left (p + 1))) (e p s) x))
+      (λ x. let y = and-right (ltb p t) (e p s) x in
+      and-both (from (p + 1) && not (left (p + 1))) (e p s)
+      (and-both (from (p + 1)) (not (left (p + 1))) (all p s (ltb→lt p t (and-left (ltb p t) (e p s) x)) y) (not-T (left (p + 1)) (none (p + 1)))) y)
 
 -- ---- a turn
 pub turn-new : {allow back : List ℕ} {t p′ time : ℕ} {ys new times ys′ new′ times′ : List ℕ} (turn : Turn allow back t p′ time ys new times ys′ new′ times′) (p s : ℕ)

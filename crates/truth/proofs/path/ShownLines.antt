@@ -16,6 +16,7 @@ use Rattle.sheets.proofs.AcceptedMachine.{nodes-sized}
 use Rattle.truth.specs.Rows.{held}
 use Rattle.truth.specs.Labelling.{rowTruths}
 use Rattle.truth.specs.Product.{argument, good, stateAt}
+use Rattle.truth.specs.Pairs.{Timed}
 use Rattle.truth.specs.OneLine.{PathReady, Holds, SolvedLine}
 use Rattle.truth.specs.Walked.{Looped, Walkable, placed}
 use Rattle.truth.specs.Shows.{ShowsLine}
@@ -46,8 +47,8 @@ module _ (M R next back rows : List ℕ) (j x : ℕ) (path : PathReady M R next 
     few-nodes : n ≤ 128
     few-nodes = rw counted (nodes-sized M (path .ready .machine) .1)
 
-    pub walkable : Walkable allow next t n xs ys times s
-    walkable = record {
+    pub walkable : Timed times → Walkable allow next t n xs ys times s
+    walkable timed = record {
       few = few;
       nodes = few-nodes;
       some = rw chained (some-state M R next back rows j x path exchanged allow xs ys times solved);
@@ -55,6 +56,7 @@ module _ (M R next back rows : List ℕ) (j x : ℕ) (path : PathReady M R next 
       xs-up = rw (counted, chained) (lasting-up M R next back rows j x path exchanged allow xs ys times solved);
       lasts = rw chained (solved .greatest .lasts);
       least = rw chained (solved .least);
+      timed = timed;
       found = rw (eb, el, eh) at had;
     }
 

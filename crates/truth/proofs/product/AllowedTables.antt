@@ -1,52 +1,88 @@
 -- The table of where an automaton may go: rows 16 p to 16 p + t - 1 by the masks of position p, and all of them together.
-use mathlib.Core.Path.{_≡_, refl, ap, _∙_}
-use mathlib.Core.Logic.{_⊎_, inl, inr, ⊎-elim}
+use mathlib.Core.Path.{_≡_, refl, sym, ap, _∙_}
+use mathlib.Core.Logic.{_⊎_, inl, inr, _↔_, ⊎-elim}
 use Prim.Native.Nat.{ℕ, _+_, _-_, _*_, _^_, _≤_, _<_}
 use native.Mathlib.Omega.{arith}
 use mathlib.Core.List.{List}
-use mathlib.Core.Bool.{Bool, _&&_}
-use lib.ListN.{length, getD, set, replicate, length-replicate}
+use mathlib.Core.Bool.{Bool, true, not, _&&_}
+use lib.ListN.{length, getD, set}
 use lib.Dec.{T}
-use Rattle.sheets.specs.Words.{bit}
+use Rattle.sheets.specs.Words.{bit, each}
 use Rattle.sheets.specs.Positions.{someBelow}
 use Rattle.sheets.specs.Rules.{automaton, variables}
-use Rattle.sheets.proofs.Tests.{and-right}
+use Rattle.sheets.proofs.Tests.{and-left, and-right, and-both}
 use Rattle.sheets.proofs.Search.{le-or-gt}
-use Rattle.sheets.proofs.Positions.{below-split, some-at, some-in, some-same}
+use Rattle.sheets.proofs.Positions.{same-tests, below-split, some-at, some-in, some-same}
 use Rattle.truth.specs.Rows.{held, rowsHas}
-use Rattle.truth.specs.Product.{agrees, argumentAt, stateAt, takes, Allowed, Masked}
-use Rattle.truth.proofs.tables.TableLaws.{zero-row, stored, stored-here, stored-other, stored-length}
+use Rattle.truth.specs.Pairs.{NoRow}
+use Rattle.truth.specs.Links.{Joined}
+use Rattle.truth.specs.Product.{agrees, argumentAt, stateAt, takes, Allowed, Drawn, MaskSet, Masked}
+use Rattle.truth.proofs.rows.RowLaws.{held-in, none-passes}
+use Rattle.truth.proofs.tables.TableLaws.{stored-here, stored-other, stored-length}
+use Rattle.truth.proofs.tables.LinkedSets.{linked-more}
 use Rattle.truth.proofs.product.ValuationRows.{row-inside, row-at}
 
--- ---- rows 16 p to 16 p + t - 1
+-- ---- one mask, and rows 16 p to 16 p + t - 1
 
-module _ (table : List ℕ) (v : ℕ) (masks : List ℕ) (p : ℕ) (before : List ℕ) where
-  pub masked-none : length before ≡ 512 → Masked table v masks p 0 before before
-  masked-none e = record { size = e; here = λ k s l. absurd (omega arith); other = λ q s o. refl }
+module _ (table : List ℕ) (mask p k : ℕ) (few : p < 16) (few′ : k < 16) (allow : List ℕ) (size : length allow ≡ 512) (into onto : List ℕ) (a b : ℕ)
+    (row : (s : ℕ) → T (held a b s) ↔ Drawn table mask s) where
+  -- it draws nothing
+  pub mask-none : NoRow allow (16 * p + k) → true ≡ each 128 (λ s. not (held a b s)) → MaskSet table mask p k allow into onto allow into onto
+  mask-none none e = record {
+    size = refl;
+    here = λ s. (λ x. absurd (none s x), λ d. absurd (none-passes (held a b) (held-in a b) (sym e) s (row s .1 d)));
+    other = λ q s n. refl;
+    enters = λ t l m n g. g;
+    leaves = λ t l m n g. g;
+  }
 
-  pub masked-more : (k a b : ℕ) (now after : List ℕ) → Masked table v masks p k before now → 16 * p + k < 256
-      → ((s : ℕ) → held a b s ≡ someBelow (2 ^ v) (λ w. bit (getD masks k 0) w && rowsHas table w s))
-      → after ≡ set (set now (2 * (16 * p + k)) a) (2 * (16 * p + k) + 1) b → Masked table v masks p (k + 1) before after
-  masked-more k a b now after m l row e = record {
-    size = rw e (stored-length now at a b fits ∙ m .size);
-    here = λ i s h. rw e (new i s h);
-    other = λ q s o. rw e (old q s o);
+  pub mask-more : (allow′ into′ onto′ : List ℕ) → allow′ ≡ set (set allow (2 * (16 * p + k)) a) (2 * (16 * p + k) + 1) b → Joined k (p + 1) into into′
+      → Joined p (k + 1) onto onto′ → MaskSet table mask p k allow into onto allow′ into′ onto′
+  mask-more allow′ into′ onto′ e to from = record {
+    size = rw e (stored-length allow (16 * p + k) a b fits);
+    here = λ s. rw (e, stored-here allow (16 * p + k) a b fits s) (row s);
+    other = other;
+    enters = λ t l m n g. linked-more (λ k q. 16 * q + k) g allow′ k p m l other (λ i j x y q. (omega arith, omega arith)) to;
+    leaves = λ t l m n g. linked-more (λ p q. 16 * p + q) g allow′ p k n l other (λ i j x y q. (omega arith, omega arith)) from;
   }
     where
-      at : ℕ
-      at = 16 * p + k
+      fits : 2 * (16 * p + k) + 1 < length allow
+      fits = rw size (omega arith)
 
-      fits : 2 * at + 1 < length now
-      fits = rw (m .size) (omega arith)
+      other : (q s : ℕ) → (q ≡ 16 * p + k → ⊥) → rowsHas allow′ q s ≡ rowsHas allow q s
+      other q s n = rw e (stored-other allow (16 * p + k) a b fits q s n)
 
-      new : (i s : ℕ) → i < k + 1 → rowsHas (stored now at a b fits) (16 * p + i) s ≡ someBelow (2 ^ v) (λ w. bit (getD masks i 0) w && rowsHas table w s)
-      new i s h =
-          ⊎-elim (λ lt. stored-other now at a b fits (16 * p + i) s (λ q. omega arith) ∙ m .here i s lt) (λ q. rw q (stored-here now at a b fits s ∙ row s))
-          (below-split k i h)
+module _ (table masks : List ℕ) (p : ℕ) (before : List ℕ) where
+  pub masked-none : length before ≡ 512 → Masked table masks p 0 before before
+  masked-none e = record { size = e; here = λ k s l. absurd (omega arith); other = λ q s o. refl }
 
-      old : (q s : ℕ) → (q < 16 * p) ⊎ (16 * p + (k + 1) ≤ q) → rowsHas (stored now at a b fits) q s ≡ rowsHas before q s
-      old q s (inl x) = stored-other now at a b fits q s (λ h. omega arith) ∙ m .other q s (inl x)
-      old q s (inr x) = stored-other now at a b fits q s (λ h. omega arith) ∙ m .other q s (inr (omega arith))
+  -- the row of the next position is as it was
+  pub masked-next : (k : ℕ) (now : List ℕ) → Masked table masks p k before now → NoRow before (16 * p + k) → NoRow now (16 * p + k)
+  masked-next k now m none s x = none s (rw (m .other (16 * p + k) s (inr (omega arith))) at x)
+
+  pub masked-more : (k : ℕ) (now after into onto into′ onto′ : List ℕ) → Masked table masks p k before now
+      → MaskSet table (getD masks k 0) p k now into onto after into′ onto′ → Masked table masks p (k + 1) before after
+  masked-more k now after into onto into′ onto′ m one = record { size = one .size ∙ m .size; here = new; other = old }
+    where
+      new : (i s : ℕ) → i < k + 1 → T (rowsHas after (16 * p + i) s) ↔ Drawn table (getD masks i 0) s
+      new i s h = ⊎-elim (λ lt. rw (one .other (16 * p + i) s (λ q. omega arith)) (m .here i s lt)) (λ q. rw q (one .here s)) (below-split k i h)
+
+      old : (q s : ℕ) → (q < 16 * p) ⊎ (16 * p + (k + 1) ≤ q) → rowsHas after q s ≡ rowsHas before q s
+      old q s (inl x) = one .other q s (λ h. omega arith) ∙ m .other q s (inl x)
+      old q s (inr x) = one .other q s (λ h. omega arith) ∙ m .other q s (inr (omega arith))
+
+-- what a mask draws is in the row of a valuation of v variables
+module _ (table : List ℕ) (v : ℕ) (empty : (w : ℕ) → 2 ^ v ≤ w → NoRow table w) (mask s : ℕ) where
+  drawn-some : Drawn table mask s → T (someBelow (2 ^ v) (λ w. bit mask w && rowsHas table w s))
+  drawn-some r =
+      ⊎-elim (λ le. absurd (empty (r .0) le s (r .2)))
+      (λ lt. some-in (λ w. bit mask w && rowsHas table w s) (2 ^ v) (r .0) lt (and-both (bit mask (r .0)) (rowsHas table (r .0) s) (r .1) (r .2))) (le-or-gt (2 ^ v) (r .0))
+
+  drawn-is : (x : Bool) → T x ↔ Drawn table mask s → x ≡ someBelow (2 ^ v) (λ w. bit mask w && rowsHas table w s)
+  drawn-is x is =
+      same-tests x (someBelow (2 ^ v) (λ w. bit mask w && rowsHas table w s)) (λ t. drawn-some (is .0 t))
+      (λ t. let r = some-at (λ w. bit mask w && rowsHas table w s) (2 ^ v) t in
+      is .1 (r .0, and-left (bit mask (r .0)) (rowsHas table (r .0) s) (r .2), and-right (bit mask (r .0)) (rowsHas table (r .0) s) (r .2)))
 
 -- ---- the whole table
 
@@ -56,25 +92,32 @@ pub record Built (R states table : List ℕ) (v t p : ℕ) (out : List ℕ) : Ty
   pub row : (i k s : ℕ) → i < p → k < t
       → rowsHas out (16 * i + k) s ≡ someBelow (2 ^ v) (λ w. takes R (getD states i 0) w (getD states k 0) && rowsHas table w s)
   pub inside : (q s : ℕ) → T (rowsHas out q s) → T (someBelow (2 ^ v) (λ w. rowsHas table w s))
+  pub rest : (q : ℕ) → 16 * p ≤ q → NoRow out q
 
 module _ (R states table : List ℕ) (v t : ℕ) where
-  pub built-none : Built R states table v t 0 (replicate 512 0)
-  built-none = record {
-    size = length-replicate {A = ℕ} 512 0;
+  pub built-none : (out : List ℕ) → length out ≡ 512 → ((q : ℕ) → NoRow out q) → Built R states table v t 0 out
+  built-none out size none = record {
+    size = size;
     row = λ i k s l m. absurd (omega arith);
-    inside = λ q s x. absurd (rw (zero-row 512 q s) at x);
+    inside = λ q s x. absurd (none q s x);
+    rest = λ q l. none q;
   }
 
-  pub built-more : (p : ℕ) (masks now after : List ℕ) → t ≤ 16 → Built R states table v t p now
-      → ((k w : ℕ) → k < t → bit (getD masks k 0) w ≡ takes R (getD states p 0) w (getD states k 0)) → Masked table v masks p t now after
+  pub built-more : (p : ℕ) (masks now after : List ℕ) → t ≤ 16 → ((w : ℕ) → 2 ^ v ≤ w → NoRow table w) → Built R states table v t p now
+      → ((k w : ℕ) → k < t → bit (getD masks k 0) w ≡ takes R (getD states p 0) w (getD states k 0)) → Masked table masks p t now after
       → Built R states table v t (p + 1) after
-  built-more p masks now after fits b made m = record { size = m .size; row = new; inside = in-table }
+  built-more p masks now after fits empty b made m = record {
+    size = m .size;
+    row = new;
+    inside = in-table;
+    rest = λ q l s x. b .rest q (omega arith) s (rw (m .other q s (inr (omega arith))) at x);
+  }
     where
       new : (i k s : ℕ) → i < p + 1 → k < t
           → rowsHas after (16 * i + k) s ≡ someBelow (2 ^ v) (λ w. takes R (getD states i 0) w (getD states k 0) && rowsHas table w s)
       new i k s l h =
           ⊎-elim (λ lt. m .other (16 * i + k) s (inl (omega arith)) ∙ b .row i k s lt h)
-          (λ e. rw e (m .here k s h ∙ some-same _ _ (λ w. ap (λ (x : Bool). x && rowsHas table w s) (made k w h)) (2 ^ v))) (below-split p i l)
+          (λ e. rw e (drawn-is table v empty (getD masks k 0) s _ (m .here k s h) ∙ some-same _ _ (λ w. ap (λ (x : Bool). x && rowsHas table w s) (made k w h)) (2 ^ v))) (below-split p i l)
 
       loose : (g : ℕ → Bool) (s : ℕ) → T (someBelow (2 ^ v) (λ w. g w && rowsHas table w s)) → T (someBelow (2 ^ v) (λ w. rowsHas table w s))
       loose g s x =
@@ -92,7 +135,7 @@ module _ (R states table : List ℕ) (v t : ℕ) where
           set-row : 16 * p ≤ q → q < 16 * p + t → T (someBelow (2 ^ v) (λ w. rowsHas table w s))
           set-row lo hi =
               let e : q ≡ 16 * p + (q - 16 * p) = omega arith in
-              loose (bit (getD masks (q - 16 * p) 0)) s (rw (m .here (q - 16 * p) s (omega arith)) at (rw e at x))
+              loose (bit (getD masks (q - 16 * p) 0)) s (drawn-some table v empty (getD masks (q - 16 * p) 0) s (m .here (q - 16 * p) s (omega arith) .0 (rw e at x)))
 
 -- it is the table that is asked for
 pub built-allowed : (R rows states table : List ℕ) (all : ℕ → Bool) (j x v t : ℕ) (out : List ℕ) → v ≡ variables R x

@@ -1,5 +1,5 @@
 -- A loop over the nodes of a row, which takes one out of what is left each turn: what is left becomes less; the nodes before the row's,
--- gathered; the nodes sorted by a test.
+-- gathered; the nodes sorted by a test; what holds of each member that was visited.
 use mathlib.Core.Path.{_≡_}
 use mathlib.Core.Logic.{_⊎_, inl, inr, _↔_, ⊎-elim, ⊎-map, by-cases}
 use Prim.Native.Nat.{ℕ, _+_, _-_, _*_, _≤_, _<_}
@@ -109,3 +109,23 @@ module _ (P : ℕ → Type 0) (look : ℕ → Bool) where
 
           was : (s : ℕ) → T (out s) → T (out′ s)
           was s o = rw (more s) (or-left (out s) (within 1 128 u && eqb s u) o)
+
+-- ---- the members visited: P holds of those that are not left
+pub record Visited (P : ℕ → Type 0) (from left : ℕ → Bool) : Type 0 where
+  pub fewer : (u : ℕ) → T (left u) → T (from u)
+  pub passed : (u : ℕ) → T (from u) → T (left u) ⊎ P u
+
+module _ (P : ℕ → Type 0) (from : ℕ → Bool) where
+  pub visited-none : Visited P from from
+  visited-none = record { fewer = λ u t. t; passed = λ u t. inl t }
+
+  module _ (left : ℕ → Bool) (g : Visited P from left) where
+    pub visited-end : ((u : ℕ) → T (left u) → ⊥) → (u : ℕ) → T (from u) → P u
+    visited-end none u t = ⊎-elim (λ l. absurd (none u l)) (λ p. p) (g .passed u t)
+
+    -- one more, after which Q holds where P did
+    pub visited-next : (Q : ℕ → Type 0) (left′ : ℕ → Bool) (u : ℕ) → Less left u left′ → ((v : ℕ) → P v → Q v) → Q u → Visited Q from left′
+    visited-next Q left′ u less on here = record {
+      fewer = λ v x. g .fewer v (less-in left left′ u less v x);
+      passed = λ v x. ⊎-elim (λ l. ⊎-elim (λ e. inr (rw e here)) inl (less-or left left′ u less v l)) (λ y. inr (on v y)) (g .passed v x);
+    }

@@ -12,7 +12,7 @@ use lib.Seq.{getD-set-same, getD-set-other}
 use lib.Dec.{eqb}
 use Rattle.sheets.proofs.Tests.{eqb-same, eqb-other}
 use Rattle.truth.specs.Rows.{held, rowHas, rowsHas}
-use Rattle.truth.specs.Pairs.{Cleared, timeOf}
+use Rattle.truth.specs.Pairs.{NoRow, Cleared, timeOf}
 use Rattle.truth.specs.declared.rows.Row.{Row}
 use Rattle.truth.proofs.rows.RowLaws.{held-none}
 
@@ -67,17 +67,17 @@ emptied B C p a b h e none =
           (λ n. rw (eqb-other q p n, and-true (rowsHas B q s)) (stored-other B p a b h q s n));
     })
 
--- ---- a table filled row after row: P says what the node s is in row i
-pub record Filled (P : ℕ → ℕ → Bool → Type 0) (k : ℕ) (B : List ℕ) : Type 0 where
-  pub size : length B ≡ 512
+-- ---- a table of z words filled row after row: P says what the node s is in row i
+pub record Filled (z : ℕ) (P : ℕ → ℕ → Bool → Type 0) (k : ℕ) (B : List ℕ) : Type 0 where
+  pub size : length B ≡ z
   pub rows : (i s : ℕ) → i < k → P i s (rowsHas B i s)
 
-module _ (P : ℕ → ℕ → Bool → Type 0) (B : List ℕ) where
-  pub filled-none : length B ≡ 512 → Filled P 0 B
+module _ {z : ℕ} (P : ℕ → ℕ → Bool → Type 0) (B : List ℕ) where
+  pub filled-none : length B ≡ z → Filled z P 0 B
   filled-none e = record { size = e; rows = λ i s l. absurd (omega arith) }
 
-  pub filled-more : (C : List ℕ) (k a b : ℕ) → Filled P k B → k < 256 → C ≡ set (set B (2 * k) a) (2 * k + 1) b → ((s : ℕ) → P k s (held a b s))
-      → Filled P (k + 1) C
+  pub filled-more : (C : List ℕ) (k a b : ℕ) → Filled z P k B → 2 * k + 1 < z → C ≡ set (set B (2 * k) a) (2 * k + 1) b → ((s : ℕ) → P k s (held a b s))
+      → Filled z P (k + 1) C
   filled-more C k a b f z e here =
       rw e (record {
         size = stored-length B k a b fits ∙ f .size;
@@ -87,6 +87,11 @@ module _ (P : ℕ → ℕ → Bool → Type 0) (B : List ℕ) where
     where
       fits : 2 * k + 1 < length B
       fits = omega (arith, f .size)
+
+-- the rows after those stored are as empty as they were
+pub empty-after : (B C : List ℕ) (k a b : ℕ) → 2 * k + 1 < length B → C ≡ set (set B (2 * k) a) (2 * k + 1) b → ((i : ℕ) → k ≤ i → NoRow B i)
+    → (i : ℕ) → k + 1 ≤ i → NoRow C i
+empty-after B C k a b h e none i l s x = none i (omega arith) s (rw (stored-other B k a b h i s (λ q. omega arith)) at (rw e at x))
 
 -- ---- a number stored by pair
 module _ (xs : List ℕ) (q v x : ℕ) where

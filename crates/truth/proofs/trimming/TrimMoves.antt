@@ -1,15 +1,16 @@
 -- Pairs moved from a set to what is gone, move after move; which pairs are owed a step then.
 use mathlib.Core.Path.{_≡_, refl, sym, _∙_}
 use mathlib.Core.Logic.{inl, inr, ⊎-elim, ⊎-map}
-use Prim.Native.Nat.{ℕ, _+_, _*_, _<_}
+use Prim.Native.Nat.{ℕ, _+_, _-_, _*_, _<_}
+use native.Mathlib.Omega.{arith}
 use mathlib.Core.List.{List}
 use mathlib.Core.Bool.{Bool, true, not, _&&_}
-use borrow.Author.Count.{below-more}
 use lib.Dec.{T, T-not}
 use Rattle.sheets.specs.Words.{each}
 use Rattle.sheets.proofs.Tests.{contrary, and-left, and-right, and-both}
 use Rattle.truth.specs.Rows.{rowsHas}
 use Rattle.truth.specs.Pairs.{Onward}
+use Rattle.truth.specs.Links.{Into}
 use Rattle.truth.specs.Trimmed.{Stuck, Taken, Owed, OwingTo, Shrunk, Moved}
 use Rattle.truth.proofs.rows.RowLaws.{held-in, none-passes}
 use Rattle.truth.proofs.trimming.TrimTaken.{taken-fewer, taken-not, taken-moved}
@@ -54,11 +55,17 @@ module _ {allow next : List ℕ} {t : ℕ} where
     onward-owed p s r = (r .0, r .1, r .2, g .stays (r .0) (r .1) (r .3))
 
   -- ---- row after row
-  pub owing-next : (p p2 : ℕ) (pre : ℕ → Bool) {xs gone xs′ gone′ : List ℕ} → Moved allow next t xs gone xs′ gone′
-      → ((q : ℕ) → q < p → OwingTo allow next t p2 pre xs gone q) → OwingTo allow next t p2 pre xs′ gone′ p
-      → (q : ℕ) → q < p + 1 → OwingTo allow next t p2 pre xs′ gone′ q
-  owing-next p p2 pre {xs′ = xs′} {gone′ = gone′} g before =
-      below-more (OwingTo allow next t p2 pre xs′ gone′) p (λ q l s x a y. owed-still g q s (before q l s (g .shrunk .fewer q s x) a y))
+  pub owing-still : (p2 : ℕ) (pre : ℕ → Bool) {xs gone xs′ gone′ : List ℕ} → Moved allow next t xs gone xs′ gone′ → (q : ℕ)
+      → OwingTo allow next t p2 pre xs gone q → OwingTo allow next t p2 pre xs′ gone′ q
+  owing-still p2 pre g q before s x a y = owed-still g q s (before s (g .shrunk .fewer q s x) a y)
+
+  -- a position that p2 is not entered from has nothing to owe
+  pub owing-all : (into : List ℕ) → Into allow into t → (p2 : ℕ) (pre : ℕ → Bool) (xs gone : List ℕ) → p2 < t
+      → ((u : ℕ) → T (rowsHas into p2 u) → OwingTo allow next t p2 pre xs gone (u - 1)) → (p : ℕ) → p < t → OwingTo allow next t p2 pre xs gone p
+  owing-all into known p2 pre xs gone below each-one p l s x a y =
+      let e : p + 1 - 1 ≡ p = omega arith in
+      let here : OwingTo allow next t p2 pre xs gone p = rw e at (each-one (p + 1) (known .all p2 p s below l a)) in
+      here s x a y
 
 -- ---- a row that was looked at
 module _ {allow : List ℕ} {p p2 : ℕ} {pre look : ℕ → Bool} {xs : List ℕ} (k : Looked allow p p2 pre look xs) where

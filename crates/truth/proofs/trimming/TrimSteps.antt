@@ -1,38 +1,19 @@
--- How the code looks for a step into a set of pairs: position after position, and by whether two rows meet.
+-- How the code looks for a step into a set of pairs: by the positions that one may go to, and by whether two rows meet.
 use mathlib.Core.Path.{_≡_, sym, _∙_}
-use mathlib.Core.Logic.{_⊎_, inl, inr, _↔_, ⊎-elim}
+use mathlib.Core.Logic.{_↔_, ⊎-elim}
 use Prim.Native.Nat.{ℕ, _+_, _-_, _*_, _<_}
-use native.Mathlib.Omega.{arith}
 use mathlib.Core.List.{List}
 use mathlib.Core.Bool.{Bool, true, false, not, _&&_, _||_}
 use lib.ListN.{getD}
 use lib.Dec.{T, not-T}
 use Rattle.sheets.specs.Words.{each}
 use Rattle.sheets.proofs.Tests.{passed, failed, and-left, and-right, and-both, or-left, or-right, or-cases}
-use Rattle.sheets.proofs.Search.{le-or-gt}
 use Rattle.truth.specs.Rows.{held, rowsHas}
 use Rattle.truth.specs.Pairs.{Onward}
+use Rattle.truth.specs.Links.{Among}
 use Rattle.truth.specs.Trimmed.{SomeBelow, Common, Stuck}
 use Rattle.truth.proofs.rows.RowLaws.{held-in, none-passes, one-passes}
-use Rattle.truth.proofs.rows.RowWalks.{Sorted}
-
--- ---- one more number
-module _ (P : ℕ → Type 0) where
-  pub below-none : SomeBelow 0 P → ⊥
-  below-none r = omega (arith, r .1)
-
-  module _ (k : ℕ) where
-    pub below-more : SomeBelow k P → SomeBelow (k + 1) P
-    below-more r = (r .0, omega (arith, r .1), r .2)
-
-    pub below-here : P k → SomeBelow (k + 1) P
-    below-here x = (k, omega arith, x)
-
-    pub below-cases : SomeBelow (k + 1) P → SomeBelow k P ⊎ P k
-    below-cases r = ⊎-elim (λ le. inl (r .0, omega arith, r .2)) (λ gt. let e : r .0 ≡ k = omega (arith, r .1) in inr (rw e at (r .2))) (le-or-gt (r .0 + 1) k)
-
-    pub below-no : (SomeBelow k P → ⊥) → (P k → ⊥) → SomeBelow (k + 1) P → ⊥
-    below-no n m r = ⊎-elim n m (below-cases r)
+use Rattle.truth.proofs.rows.RowWalks.{Less, Sorted, Visited, visited-none, visited-next, visited-end}
 
 -- ---- rows that meet
 pub meet-is : (a b c d : ℕ) (r : Bool) → r ≡ not (each 128 (λ s. not (held a b s && held c d s))) → T r ↔ Common (held a b) (held c d)
@@ -51,30 +32,40 @@ meet-is a b c d r e = (
     none : Bool
     none = each 128 (λ s. not (both s))
 
--- ---- what the positions below k are stepped to from, where row k of a table has the nodes before those of k
+-- ---- where position p may go to k, and row k of a table has the node
 abbrev pub Through : List ℕ → List ℕ → ℕ → ℕ → ℕ → Type 0
 Through allow table p s k = T (rowsHas allow (16 * p + k) s) × T (rowsHas table k s)
 
-pub through-next : (allow table : List ℕ) (p s k a b c d : ℕ) (out out′ step : Bool) → T out ↔ SomeBelow k (Through allow table p s) → out′ ≡ (out || step)
-    → step ≡ (held a b s && held c d s) → a ≡ getD allow (2 * (16 * p + k)) 0 → b ≡ getD allow (2 * (16 * p + k) + 1) 0
-    → c ≡ getD table (2 * k) 0 → d ≡ getD table (2 * k + 1) 0 → T out′ ↔ SomeBelow (k + 1) (Through allow table p s)
-through-next allow table p s k a b c d out out′ step is e f ea eb ec ed = (to, from)
-  where
-    whole : out′ ≡ (out || (rowsHas allow (16 * p + k) s && rowsHas table k s))
-    whole = e ∙ rw (f, ea, eb, ec, ed)
+-- `out` has the nodes of the positions that are not left
+pub record Passing (allow table : List ℕ) (p : ℕ) (from left out : ℕ → Bool) : Type 0 where
+  pub visited : Visited (λ u. (s : ℕ) → Through allow table p s (u - 1) → T (out s)) from left
+  pub found : (s : ℕ) → T (out s) → Among from (Through allow table p s)
 
-    to : T out′ → SomeBelow (k + 1) (Through allow table p s)
-    to t =
-        ⊎-elim (λ o. below-more (Through allow table p s) k (is .0 o))
-        (λ x. below-here (Through allow table p s) k (and-left (rowsHas allow (16 * p + k) s) (rowsHas table k s) x, and-right (rowsHas allow (16 * p + k) s) (rowsHas table k s) x))
-        (or-cases out (rowsHas allow (16 * p + k) s && rowsHas table k s) (rw whole at t))
+module _ (allow table : List ℕ) (p : ℕ) (from : ℕ → Bool) where
+  pub passing-none : (out : ℕ → Bool) → ((s : ℕ) → out s ≡ false) → Passing allow table p from from out
+  passing-none out e = record { visited = visited-none _ from; found = λ s t. absurd (rw (e s) at t) }
 
-    from : SomeBelow (k + 1) (Through allow table p s) → T out′
-    from r =
-        rw whole
-        (⊎-elim (λ x. or-left out (rowsHas allow (16 * p + k) s && rowsHas table k s) (is .1 x))
-        (λ x. or-right out (rowsHas allow (16 * p + k) s && rowsHas table k s) (and-both (rowsHas allow (16 * p + k) s) (rowsHas table k s) (x .0) (x .1)))
-        (below-cases (Through allow table p s) k r))
+  module _ (left out : ℕ → Bool) (g : Passing allow table p from left out) where
+    pub passing-end : ((u : ℕ) → T (left u) → ⊥) → (s : ℕ) → T (out s) ↔ Among from (Through allow table p s)
+    passing-end none s = (g .found s, λ r. visited-end _ from left (g .visited) none (r .0) (r .1) s (r .2))
+
+    pub passing-next : (left′ out′ step : ℕ → Bool) (u a b c d : ℕ) → T (left u) → Less left u left′ → ((s : ℕ) → out′ s ≡ (out s || step s))
+        → ((s : ℕ) → step s ≡ (held a b s && held c d s)) → a ≡ getD allow (2 * (16 * p + (u - 1))) 0 → b ≡ getD allow (2 * (16 * p + (u - 1)) + 1) 0
+        → c ≡ getD table (2 * (u - 1)) 0 → d ≡ getD table (2 * (u - 1) + 1) 0 → Passing allow table p from left′ out′
+    passing-next left′ out′ step u a b c d t less e f ea eb ec ed = record {
+      visited = visited-next _ from left (g .visited) _ left′ u less (λ v y s x. rw (whole s) (or-left (out s) (step-is s) (y s x)))
+          (λ s x. rw (whole s) (or-right (out s) (step-is s) (and-both (rowsHas allow (16 * p + (u - 1)) s) (rowsHas table (u - 1) s) (x .0) (x .1))));
+      found = λ s x.
+          ⊎-elim (g .found s)
+          (λ y. (u, g .visited .fewer u t, (and-left (rowsHas allow (16 * p + (u - 1)) s) (rowsHas table (u - 1) s) y, and-right (rowsHas allow (16 * p + (u - 1)) s) (rowsHas table (u - 1) s) y)))
+          (or-cases (out s) (step-is s) (rw (whole s) at x));
+    }
+      where
+        step-is : ℕ → Bool
+        step-is s = rowsHas allow (16 * p + (u - 1)) s && rowsHas table (u - 1) s
+
+        whole : (s : ℕ) → out′ s ≡ (out s || step-is s)
+        whole s = e s ∙ rw (f s, ea, eb, ec, ed)
 
 -- ---- at s the automaton may go from p to k, whose row has a node of the two words
 abbrev pub Meeting : List ℕ → List ℕ → ℕ → ℕ → ℕ → ℕ → ℕ → Type 0

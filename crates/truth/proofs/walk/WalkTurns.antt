@@ -25,7 +25,7 @@ module _ {allow next : List ℕ} {t n : ℕ} {xs ys times : List ℕ} {s : ℕ} 
   goes-onward e = w .lasts p u l (rw e tt)
 
   pub goes-sooner : rowsHas xs p u ≡ false → T (rowsHas ys p u) → Sooner allow next t ys times p u
-  goes-sooner e i = ⊎-elim (λ x. absurd (rw e at x)) (λ r. r) (w .least .falls p u l i)
+  goes-sooner e i = ⊎-elim (λ x. absurd (rw e at x)) (λ r. r) (w .least .falls (w .timed) p u l i)
 
   module _ (p′ u′ : ℕ) (step : Steps allow next t p u p′ u′) where
     pub advances-onward : rowsHas xs p u ≡ true → T (rowsHas xs p′ u′) → Advances allow next t xs ys times p u p′ u′

@@ -3,16 +3,18 @@ use mathlib.Core.Path.{_≡_, sym, _∙_}
 use Prim.Native.Nat.{ℕ, _+_, _*_, _<_}
 use native.Mathlib.Omega.{arith}
 use mathlib.Core.Bool.{not, _&&_}
+use mathlib.Core.List.{List}
 use lib.ListN.{length}
+use lib.Dec.{eqb}
 use Rattle.truth.specs.Rows.{rowHas, rowsHas}
-use Rattle.truth.specs.Growing.{enters}
+use Rattle.truth.specs.Growing.{Marked, Spread, enters}
 use Rattle.truth.proofs.tables.TableLaws.{stored-length, stored-more}
-use Rattle.truth.proofs.growth.RowAdditions.{spread-one, spread-empty}
+use Rattle.truth.proofs.growth.RowAdditions.{spread-one, spread-empty, unmarked}
 use Rattle.truth.proofs.growth.grow_one.Statement.{statement}
 use Rattle.truth.proofs.growth.grow_one.Tie as tie
 
 abbrev start : tie.After-difference → tie.Start
-start c = c .before .before .before .before .before
+start c = c .before .before .before .before .before .before
 
 -- the nodes at p that step to p2 and are not met
 extra : (c : tie.After-difference) (s : ℕ)
@@ -63,27 +65,39 @@ union-requires-2 : tie.Need-union-requires-2
 union-requires-2 c κs = omega arith
 
 store-requires-2 : tie.Need-store-requires-2
-store-requires-2 c κs = omega arith
+store-requires-2 c κs = c .before .before .before .before .before .before .before .before .before .before .before .before .before .before .before .pre .0
 
 mark-requires : tie.Need-mark-requires
-mark-requires c κs = let pre = c .before .before .before .before .before .before .before .before .before .before .before .before .before .before .before .before .pre in omega (arith, pre .0, pre .4)
+mark-requires c κs = (c .before .before .before .before .before .before .before .before .before .before .before .before .before .before .before .before .before .before .pre .0, omega (arith, c .before .if2 .left))
 
-returns-2 : tie.Need-returns-2
-returns-2 c =
-    let d = c .before .before .before .before .before .before .before .before .before .before .before .before in
-    let a = start d .args in
-    let here = d .before .before .before .load .ensures in
+-- what is added, and what the times are then
+added : (c : tie.After-store2) (times : List ℕ) → Marked (rowHas (c .before .before .before .before .before .before .before .before .before .before .difference .result)) (c .before .before .before .before .before .before .before .before .before .before .before .before .before .before .before .before .args .p) (c .before .before .before .before .before .before .before .before .before .before .before .before .before .before .before .before .args .time) (c .before .before .before .before .before .before .before .before .before .before .before .before .before .before .before .before .args .times .now) times
+    → Spread (λ q s. eqb q (c .before .before .before .before .before .before .before .before .before .before .before .before .before .before .before .before .args .p) && enters (c .before .before .before .before .before .before .before .before .before .before .before .before .before .before .before .before .args .allow .now) (c .before .before .before .before .before .before .before .before .before .before .before .before .before .before .before .before .args .p2) (rowHas (c .before .before .before .before .before .before .before .before .before .before .before .before .before .before .before .before .args .prev)) (c .before .before .before .before .before .before .before .before .before .before .before .before .before .before .before .before .args .p) s) (c .before .before .before .before .before .before .before .before .before .before .before .before .before .before .before .before .args .time)
+    (c .before .before .before .before .before .before .before .before .before .before .before .before .before .before .before .before .args .ys .now) (c .before .before .before .before .before .before .before .before .before .before .before .before .before .before .before .before .args .new .now) (c .before .before .before .before .before .before .before .before .before .before .before .before .before .before .before .before .args .times .now) (c .before .before .before .before .before .store .last .0) (c .store2 .last .0) times
+added c times marked =
+    let d = c .before .before .before .before .before .before .before .before .before .before in
+    let a = c .before .before .before .before .before .before .before .before .before .before .before .before .before .before .before .before .args in
+    let here = c .before .before .before .before .before .before .before .before .before .before .before .before .before .load .ensures in
     let long : 2 * a .p + 1 < length (a .ys .now) = omega arith in
     let long′ : 2 * a .p + 1 < length (a .new .now) = omega arith in
-    let e = c .before .before .before .before .before .before .before .store .ensures in
-    let f = c .before .before .store2 .ensures in
-    let new = c .before .before .before .before .before .load3 .ensures in
+    let e = c .before .before .before .before .before .store .ensures in
+    let f = c .store2 .ensures in
+    let new = c .before .before .before .load3 .ensures in
     spread-one (enters (a .allow .now) (a .p2) (rowHas (a .prev)) (a .p)) _ _ _ _ _ _ _ _ _ (extra d)
     (rw e (stored-length (a .ys .now) (a .p) _ _ long))
     (rw f (stored-length (a .new .now) (a .p) _ _ long′))
-    (rw e (stored-more (a .ys .now) (a .p) _ _ long (rowHas (d .difference .result)) (λ s. rw (here .0, here .1) at (c .before .before .before .before .before .before .before .before .union .ensures s))))
-    (rw f (stored-more (a .new .now) (a .p) _ _ long′ (rowHas (d .difference .result)) (λ s. rw (new .0, new .1) at (c .before .before .before .union2 .ensures s))))
-    (c .mark .ensures)
+    (rw e (stored-more (a .ys .now) (a .p) _ _ long (rowHas (d .difference .result)) (λ s. rw (here .0, here .1) at (c .before .before .before .before .before .before .union .ensures s))))
+    (rw f (stored-more (a .new .now) (a .p) _ _ long′ (rowHas (d .difference .result)) (λ s. rw (new .0, new .1) at (c .before .union2 .ensures s))))
+    marked
+
+returns-2 : tie.Need-returns-2
+returns-2 c = added (c .before) _ (unmarked (λ room. omega (arith, c .if2 .taken, room)))
+
+same-length : tie.Need-same-length
+same-length c = c .before .before .mark .ensures .size
+
+returns-3 : tie.Need-returns-3
+returns-3 c = added (c .before .before .before .before .before) _ (c .before .before .mark .ensures)
 
 pub grow-one-spec : {M : Type 1} → statement M
 grow-one-spec =
@@ -102,5 +116,7 @@ grow-one-spec =
     load-requires-3
     union-requires-2
     store-requires-2
+    returns-2
     mark-requires
-    returns-2)
+    same-length
+    returns-3)

@@ -15,10 +15,10 @@ use Rattle.truth.proofs.growth.grow_round.Statement.{statement}
 use Rattle.truth.proofs.growth.grow_round.Tie as tie
 
 abbrev Inv-loop : tie.InvT-loop
-Inv-loop allow back t time ys₀ new₀ times₀ at₀ k₀ ys new times at k = (k ≤ t) × Turns allow back t time at ys₀ new₀ times₀ ys new times × (at ≡ time → NoRows k new)
+Inv-loop allow back into t time ys₀ new₀ times₀ at₀ k₀ ys new times at k = (k ≤ t) × Turns allow back t time at ys₀ new₀ times₀ ys new times × (at ≡ time → NoRows k new)
 
 abbrev μ-loop : tie.MeasureT-loop
-μ-loop allow back t time ys₀ new₀ times₀ at₀ k₀ ys new times at k = t - k
+μ-loop allow back into t time ys₀ new₀ times₀ at₀ k₀ ys new times at k = t - k
 
 abbrev at-loop : tie.After-is-empty Inv-loop μ-loop → tie.At-loop Inv-loop μ-loop
 at-loop c = c .before .before .before .before
@@ -41,25 +41,25 @@ is-empty-requires c κs = omega arith
 
 grow-from-requires : tie.Need-grow-from-requires Inv-loop μ-loop
 grow-from-requires c κs =
-    let pre = c .before .before .before .before .before .before .before .before .before .pre in
+    let pre = c .before .before .before .before .before .before .before .before .before .before .pre in
     let g = c .before .before .before .before .before .before .before .before .loop .inv .1 in
-    (omega arith, omega arith, g .ys-size ∙ pre .2, g .new-size ∙ pre .3, g .times-size ∙ pre .4)
+    (omega arith, omega arith, g .ys-size ∙ pre .2, g .new-size ∙ pre .3, pre .4)
 
 add-at : tie.Need-add-at Inv-loop μ-loop
 add-at c =
-    let l = c .before .before .before .before .before .before .before .before .before .loop in
-    let some = tested (c .before .before .before .before .before) ∙ not-true _ (c .before .before .before .before .if1 .taken) in
-    let turn = turns-one (omega arith) (omega arith) (c .grow-from .ensures) some in
-    omega (arith, turn .fewer, l .inv .1 .fewer, c .before .before .before .before .before .before .before .before .before .before .pre .1)
+    let l = c .before .before .before .before .before .before .before .before .before .before .before .loop in
+    let some = tested (c .before .before .before .before .before .before .before) ∙ not-true _ (c .before .before .before .before .before .before .if1 .taken) in
+    let turn = turns-one (omega arith) (omega arith) (c .before .before .grow-from .ensures) some in
+    omega (arith, turn .fewer, l .inv .1 .fewer, c .before .before .before .before .before .before .before .before .before .before .before .before .before .pre .1)
 
 loop-less : tie.Need-loop-less Inv-loop μ-loop
 loop-less c = omega arith
 
 loop-again : tie.Need-loop-again Inv-loop μ-loop
 loop-again c =
-    let l = c .before .before .before .before .before .before .before .before .before .loop in
-    let some = tested (c .before .before .before .before .before) ∙ not-true _ (c .before .before .before .before .if1 .taken) in
-    let turn = turns-one (omega arith) (omega arith) (c .grow-from .ensures) some in
+    let l = c .before .before .before .before .before .before .before .before .before .before .before .loop in
+    let some = tested (c .before .before .before .before .before .before .before) ∙ not-true _ (c .before .before .before .before .before .before .if1 .taken) in
+    let turn = turns-one (omega arith) (omega arith) (c .before .before .grow-from .ensures) some in
     (omega arith, turns-more (l .inv .1) turn, λ e. absurd (omega (arith, l .inv .1 .later)))
 
 loop-less-2 : tie.Need-loop-less-2 Inv-loop μ-loop
@@ -70,6 +70,9 @@ loop-again-2 c =
     let l = c .before .before .before .before .before .loop in
     let none = tested (c .before) ∙ not-false _ (c .if1 .left) in
     (omega arith, l .inv .1, λ e. below-more (NoRow (l .new)) (l .k) (l .inv .2 e) (none-passes (rowsHas (l .new) (l .k)) (held-in _ _) none))
+
+same-length : tie.Need-same-length Inv-loop μ-loop
+same-length c = c .before .loop .inv .1 .times-size
 
 returns : tie.Need-returns Inv-loop μ-loop
 returns c =
@@ -92,4 +95,5 @@ grow-round-spec =
     loop-again
     loop-less-2
     loop-again-2
+    same-length
     returns)

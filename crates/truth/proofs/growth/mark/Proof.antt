@@ -20,6 +20,9 @@ loop-holds c = marking-none _ (held-in _ _) _ _ _
 first-requires : tie.Need-first-requires Inv-loop μ-loop
 first-requires c κs = omega arith
 
+same-length : tie.Need-same-length Inv-loop μ-loop
+same-length c = c .before .before .loop .inv .size
+
 returns : tie.Need-returns Inv-loop μ-loop
 returns c = marking-all _ (held-in _ _) _ _ _ _ _ (c .before .before .loop .inv) (none-left _ _ (c .before .first .ensures) (c .if1 .taken))
 
@@ -38,8 +41,8 @@ add-times c = omega arith
 mul-times-2 : tie.Need-mul-times-2 Inv-loop μ-loop
 mul-times-2 c = omega arith
 
-element-write-times : tie.Need-element-write-times Inv-loop μ-loop
-element-write-times c = omega (arith, one-within _ _ _ (c .before .first .ensures) (c .if1 .left))
+slice-write-times : tie.Need-slice-write-times Inv-loop μ-loop
+slice-write-times c = omega (arith, one-within _ _ _ (c .before .first .ensures) (c .if1 .left), c .before .before .loop .inv .size)
 
 without-requires : tie.Need-without-requires Inv-loop μ-loop
 without-requires c κs = omega arith
@@ -66,13 +69,14 @@ mark-spec =
     μ-loop
     loop-holds
     first-requires
+    same-length
     returns
     mul-times
     cast-times
     sub-times
     add-times
     mul-times-2
-    element-write-times
+    slice-write-times
     without-requires
     loop-less
     loop-again)

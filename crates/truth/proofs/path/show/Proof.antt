@@ -1,11 +1,18 @@
 -- `show` meets its contract: the solved line's row says whether there is a path; where there is, the solved tables can be walked, and the
 -- walk, its positions named, is the list.
 use borrow.Author.Needs.{needs}
+use mathlib.Core.Path.{_≡_}
 use native.Mathlib.Omega.{arith}
+use lib.ListN.{length}
+use Rattle.truth.specs.Pairs.{Timed}
 use Rattle.truth.proofs.lines.PathRows.{states-few}
 use Rattle.truth.proofs.path.ShownLines.{none-shown, walkable, list-fits, shows-line}
 use Rattle.truth.proofs.path.show.Statement.{statement}
 use Rattle.truth.proofs.path.show.Tie as tie
+
+-- there is room for every time
+timed : (c : tie.After-solve) → Timed (c .solve .result .times)
+timed c = let long : length (c .solve .result .times) ≡ 2048 = search needs in omega arith
 
 solve-requires : tie.Need-solve-requires
 solve-requires c κs = search needs
@@ -43,7 +50,7 @@ walk-requires c κs =
     let a = start .args in
     walkable (a .m .now) (a .r .now) (a .next .now) (a .back .now) (a .rows .now) (a .j) (a .x) (start .pre .0) (a .exchanged) _ _ _ _ (solved .before .solve .ensures)
     (a .s) (start .pre .1 .0) (start .pre .1 .1) _ _ (has .before .load .ensures .0) (has .before .load .ensures .1) _ (has .has .ensures) (counted .before .before .if1 .left) _ _
-    (counted .before .chain-length .ensures) (counted .nodes .ensures)
+    (counted .before .chain-length .ensures) (counted .nodes .ensures) (timed (solved .before))
 
 chain-states-requires : tie.Need-chain-states-requires
 chain-states-requires c κs =

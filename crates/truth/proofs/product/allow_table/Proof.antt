@@ -1,19 +1,21 @@
--- `allow_table` meets its contract. The invariant: the rows of positions below p are made, and every row has nodes of the valuations' rows alone.
+-- `allow_table` meets its contract. The invariant: the rows of positions below p are made, every row has nodes of the valuations' rows alone,
+-- and the sets know what they must.
 -- The measure is what is left of t.
 use mathlib.Core.Path.{_≡_}
-use Prim.Native.Nat.{_-_, _≤_}
+use Prim.Native.Nat.{_+_, _-_, _*_, _≤_}
 use native.Mathlib.Omega.{arith}
 use Rattle.sheets.specs.Rules.{variables}
 use Rattle.truth.specs.Rows.{rowHas}
+use Rattle.truth.specs.Links.{Into, Onto}
 use Rattle.truth.proofs.product.AllowedTables.{Built, built-none, built-more, built-allowed}
 use Rattle.truth.proofs.product.allow_table.Statement.{statement}
 use Rattle.truth.proofs.product.allow_table.Tie as tie
 
 abbrev Inv-loop : tie.InvT-loop
-Inv-loop r rows j x t v states table out₀ p₀ out p = (p ≤ t) × Built r states table v t p out
+Inv-loop r rows j x t out₀ into₀ onto₀ v states table p₀ out into onto p = (p ≤ t) × Built r states table v t p out × Into out into t × Onto out onto t
 
 abbrev μ-loop : tie.MeasureT-loop
-μ-loop r rows j x t v states table out₀ p₀ out p = t - p
+μ-loop r rows j x t out₀ into₀ onto₀ v states table p₀ out into onto p = t - p
 
 automaton-word-requires : tie.Need-automaton-word-requires Inv-loop μ-loop
 automaton-word-requires c κs = omega arith
@@ -24,11 +26,11 @@ chain-states-requires c κs = omega arith
 valuation-table-requires : tie.Need-valuation-table-requires Inv-loop μ-loop
 unfolding variables
 valuation-table-requires c κs =
-    let s = c .before .before .before .before in
-    rw (c .before .automaton-word .ensures) (s .pre .1, s .pre .3)
+    let pre = c .before .before .before .before .pre in
+    rw (c .before .automaton-word .ensures) (pre .1, pre .3)
 
 loop-holds : tie.Need-loop-holds Inv-loop μ-loop
-loop-holds c = (omega arith, built-none _ _ _ _ _)
+loop-holds c = (omega arith, built-none _ _ _ _ _ _ (c .before .before .before .before .before .pre .4) (c .before .before .before .before .before .pre .5), c .before .before .before .before .before .pre .6, c .before .before .before .before .before .pre .7)
 
 cast-masks-from : tie.Need-cast-masks-from Inv-loop μ-loop
 cast-masks-from c = omega arith
@@ -43,11 +45,9 @@ masks-from-requires : tie.Need-masks-from-requires Inv-loop μ-loop
 masks-from-requires c κs = omega arith
 
 set-masks-requires : tie.Need-set-masks-requires Inv-loop μ-loop
-unfolding variables
 set-masks-requires c κs =
-    let s = c .before .before .before .before .before .before .before in
-    let pre = s .before .before .before .pre in
-    (rw (s .automaton-word .ensures) (pre .1), omega arith, pre .0, c .before .before .before .before .loop .inv .1 .size)
+    let l = c .before .before .before .before .before .before .loop in
+    (omega arith, c .before .before .before .before .before .before .before .before .before .before .before .before .pre .0, l .inv .1 .size, λ k h. l .inv .1 .rest (16 * l .p + k) (omega arith), l .inv .2, l .inv .3)
 
 add-p : tie.Need-add-p Inv-loop μ-loop
 add-p c = omega arith
@@ -57,22 +57,25 @@ loop-less c = omega arith
 
 loop-again : tie.Need-loop-again Inv-loop μ-loop
 loop-again c =
-    let s = c .before .before .before .before .before .before in
-    let a = s .before .before .before .before .before .args in
-    let at = c .before .before .before .before .before .loop in (
+    let a = c .before .before .before .before .before .before .before .before .before .before .before .before .before .args in
+    let at = c .before .before .before .before .before .before .before .loop in (
       omega arith,
-      built-more (a .r .now) (s .before .chain-states .result) (s .valuation-table .result) _ (a .t) (at .p) _ (at .out) _ (omega arith) (at .inv .1)
-          (c .before .before .before .masks-from .ensures) (c .set-masks .ensures),
+      built-more (a .r .now) (c .before .before .before .before .before .before .before .before .before .chain-states .result) (c .before .before .before .before .before .before .before .before .valuation-table .result) _ (a .t) (at .p) _ (at .out) _ (omega arith) (c .before .before .before .before .before .before .before .before .valuation-table .ensures .0) (at .inv .1)
+          (c .before .before .before .before .before .masks-from .ensures) (c .set-masks .ensures .0),
+      c .set-masks .ensures .1 .0,
+      c .set-masks .ensures .1 .1,
     )
 
 returns : tie.Need-returns Inv-loop μ-loop
 unfolding variables
 returns c =
-    let s = c .before .before in
-    let a = s .before .before .before .before .before .args in
+    let a = c .before .before .before .before .before .before .before .args in
     let e : c .before .loop .p ≡ a .t = omega arith in
-    built-allowed (a .r .now) (a .rows .now) (s .before .chain-states .result) (s .valuation-table .result) (rowHas (a .all)) (a .j) (a .x) _ (a .t) _
-    (s .before .before .automaton-word .ensures) (s .before .chain-states .ensures) (s .valuation-table .ensures) (rw e at (c .before .loop .inv .1))
+    let l = c .before .loop in (
+      built-allowed (a .r .now) (a .rows .now) (c .before .before .before .chain-states .result) (c .before .before .valuation-table .result) (rowHas (a .all)) (a .j) (a .x) _ (a .t) _
+          (c .before .before .before .before .automaton-word .ensures) (c .before .before .before .chain-states .ensures) (c .before .before .valuation-table .ensures .1) (rw e at (l .inv .1)),
+      (l .inv .2, l .inv .3),
+    )
 
 pub allow-table-spec : {M : Type 1} → statement M
 allow-table-spec =

@@ -18,7 +18,7 @@ abbrev Has : List ℕ → Row → Bool → List ℕ → ℕ → ℕ → Bool →
 Has r all exchanged states p s b = b ≡ (rowHas all s && good exchanged r (getD states p 0))
 
 abbrev Inv-loop : tie.InvT-loop
-Inv-loop r all x t exchanged states out₀ p₀ out p = (p ≤ t) × Filled (Has r all exchanged states) p out
+Inv-loop r all x t exchanged states out₀ p₀ out p = (p ≤ t) × Filled 32 (Has r all exchanged states) p out
 
 abbrev μ-loop : tie.MeasureT-loop
 μ-loop r all x t exchanged states out₀ p₀ out p = t - p

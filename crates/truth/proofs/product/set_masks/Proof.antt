@@ -1,44 +1,44 @@
--- `set_masks` meets its contract. The invariant: k rows are set, and the others are as they were. The measure is what is left of t.
+-- `set_masks` meets its contract. The invariant: k rows are set, the others are as they were, and the sets know what they must. The measure is
+-- what is left of t.
 use mathlib.Core.Path.{_≡_}
-use Prim.Native.Nat.{_+_, _-_, _*_, _≤_, _<_}
+use Prim.Native.Nat.{_-_, _≤_}
 use native.Mathlib.Omega.{arith}
 use Rattle.truth.specs.Product.{Masked}
-use Rattle.truth.proofs.product.AllowedTables.{masked-none, masked-more}
+use Rattle.truth.specs.Links.{Into, Onto}
+use Rattle.truth.proofs.product.AllowedTables.{masked-none, masked-next, masked-more}
 use Rattle.truth.proofs.product.set_masks.Statement.{statement}
 use Rattle.truth.proofs.product.set_masks.Tie as tie
 
 abbrev Inv-loop : tie.InvT-loop
-Inv-loop table v p t out₀ masks k₀ out k = (k ≤ t) × Masked table v masks p k out₀ out
+Inv-loop table p t out₀ into₀ onto₀ masks k₀ out into onto k = (k ≤ t) × Masked table masks p k out₀ out × Into out into t × Onto out onto t
 
 abbrev μ-loop : tie.MeasureT-loop
-μ-loop table v p t out₀ masks k₀ out k = t - k
+μ-loop table p t out₀ into₀ onto₀ masks k₀ out into onto k = t - k
 
 loop-holds : tie.Need-loop-holds Inv-loop μ-loop
-loop-holds c = (omega arith, masked-none _ _ _ _ _ (c .pre .3))
+loop-holds c = (omega arith, masked-none _ _ _ _ (c .pre .2), c .pre .4, c .pre .5)
 
-cast-mask-row : tie.Need-cast-mask-row Inv-loop μ-loop
-cast-mask-row c = omega arith
+cast-set-mask : tie.Need-cast-set-mask Inv-loop μ-loop
+cast-set-mask c = omega arith
 
-mul-mask-row : tie.Need-mul-mask-row Inv-loop μ-loop
-mul-mask-row c = omega arith
+mul-set-mask : tie.Need-mul-set-mask Inv-loop μ-loop
+mul-set-mask c = omega arith
 
-array-read-mask-row : tie.Need-array-read-mask-row Inv-loop μ-loop
-array-read-mask-row c = omega arith
+array-read-set-mask : tie.Need-array-read-set-mask Inv-loop μ-loop
+array-read-set-mask c = omega arith
 
-mask-row-requires : tie.Need-mask-row-requires Inv-loop μ-loop
-mask-row-requires c κs = omega arith
-
-mul-store : tie.Need-mul-store Inv-loop μ-loop
-mul-store c = omega arith
-
-add-store : tie.Need-add-store Inv-loop μ-loop
-add-store c = omega arith
-
-cast-store : tie.Need-cast-store Inv-loop μ-loop
-cast-store c = omega arith
-
-store-requires : tie.Need-store-requires Inv-loop μ-loop
-store-requires c κs = omega arith
+set-mask-requires : tie.Need-set-mask-requires Inv-loop μ-loop
+set-mask-requires c κs =
+    let a = c .before .before .before .before .before .args in
+    let pre = c .before .before .before .before .before .pre in
+    let l = c .before .before .before .before .loop in (
+      omega (arith, pre .0, pre .1),
+      omega (arith, pre .1),
+      l .inv .1 .size,
+      masked-next (a .table .now) _ (a .p) (a .out .now) (l .k) (l .out) (l .inv .1) (pre .3 (l .k) (omega arith)),
+      l .inv .2 .size,
+      l .inv .3 .size,
+    )
 
 add-k : tie.Need-add-k Inv-loop μ-loop
 add-k c = omega arith
@@ -48,18 +48,21 @@ loop-less c = omega arith
 
 loop-again : tie.Need-loop-again Inv-loop μ-loop
 loop-again c =
-    let a = c .before .before .before .before .before .args in
-    let at = c .before .before .before .before .loop in
-    let fits : 16 * a .p + at .k < 256 = omega arith in (
+    let a = c .before .before .before .before .before .before .args in
+    let pre = c .before .before .before .before .before .before .pre in
+    let l = c .before .before .before .before .before .loop in
+    let one = c .set-mask .ensures in (
       omega arith,
-      masked-more (a .table .now) (a .v) (a .t3) (a .p) (a .out .now) (at .k) _ _ (at .out) _ (at .inv .1) fits
-          (c .before .before .mask-row .ensures) (c .store .ensures),
+      masked-more (a .table .now) _ (a .p) (a .out .now) (l .k) (l .out) _ (l .into) (l .onto) _ _ (l .inv .1) one,
+      one .enters (a .t) (pre .1) (pre .0) (omega arith) (l .inv .2),
+      one .leaves (a .t) (pre .1) (pre .0) (omega arith) (l .inv .3),
     )
 
 returns : tie.Need-returns Inv-loop μ-loop
 returns c =
-    let e : c .before .loop .k ≡ c .before .before .args .t = omega arith in
-    rw e at (c .before .loop .inv .1)
+    let l = c .before .loop in
+    let e : l .k ≡ c .before .before .args .t = omega arith in
+    (rw e at (l .inv .1), (l .inv .2, l .inv .3))
 
 pub set-masks-spec : {M : Type 1} → statement M
 set-masks-spec =
@@ -68,14 +71,10 @@ set-masks-spec =
     Inv-loop
     μ-loop
     loop-holds
-    cast-mask-row
-    mul-mask-row
-    array-read-mask-row
-    mask-row-requires
-    mul-store
-    add-store
-    cast-store
-    store-requires
+    cast-set-mask
+    mul-set-mask
+    array-read-set-mask
+    set-mask-requires
     add-k
     loop-less
     loop-again

@@ -1,15 +1,16 @@
 -- `valuation_table` meets its contract. The invariant: the rows below w have the nodes of their valuations. The measure is the number of those left.
 use borrow.Author.Needs.{needs}
 use mathlib.Core.Path.{_≡_}
-use Prim.Native.Nat.{ℕ, _-_, _≤_}
+use Prim.Native.Nat.{ℕ, _+_, _-_, _*_, _^_, _≤_, _<_}
 use native.Mathlib.Omega.{arith}
 use mathlib.Core.List.{List}
 use mathlib.Core.Bool.{Bool, _&&_}
 use Rattle.truth.specs.Rows.{rowHas}
+use Rattle.truth.specs.Pairs.{NoRow}
 use Rattle.truth.specs.Product.{agrees, argumentAt}
 use Rattle.truth.specs.declared.rows.Row.{Row}
 use Rattle.truth.proofs.product.ValuationRows.{valuations}
-use Rattle.truth.proofs.tables.TableLaws.{Filled, filled-none, filled-more}
+use Rattle.truth.proofs.tables.TableLaws.{zero-row, Filled, filled-none, filled-more, empty-after}
 use Rattle.truth.proofs.product.valuation_table.Statement.{statement}
 use Rattle.truth.proofs.product.valuation_table.Tie as tie
 
@@ -18,7 +19,7 @@ abbrev Valued : List ℕ → List ℕ → Row → ℕ → ℕ → ℕ → ℕ �
 Valued r rows all j v w s b = b ≡ (rowHas all s && agrees v w (argumentAt r rows j s))
 
 abbrev Inv-loop : tie.InvT-loop
-Inv-loop r rows all j v out₀ most w₀ out w = (w ≤ most) × Filled (Valued r rows all j v) w out
+Inv-loop r rows all j v out₀ most w₀ out w = (w ≤ most) × Filled 32 (Valued r rows all j v) w out × ((i : ℕ) → w ≤ i → NoRow out i)
 
 abbrev μ-loop : tie.MeasureT-loop
 μ-loop r rows all j v out₀ most w₀ out w = most - w
@@ -27,7 +28,7 @@ shl-most : tie.Need-shl-most Inv-loop μ-loop
 shl-most c = omega arith
 
 loop-holds : tie.Need-loop-holds Inv-loop μ-loop
-loop-holds c = (omega arith, filled-none _ _ (search needs))
+loop-holds c = (omega arith, filled-none _ _ (search needs), λ i l s x. rw (zero-row 32 i s) at x)
 
 valuation-row-requires : tie.Need-valuation-row-requires Inv-loop μ-loop
 valuation-row-requires c κs = search needs
@@ -52,12 +53,18 @@ loop-again c =
     let at = c .before .before .before .before .loop in
     let v = valuations (a .v) (omega arith) in
     let valued = Valued (a .r .now) (a .rows .now) (a .all) (a .j) (a .v) in
-    (omega arith, filled-more valued (at .out) _ (at .w) _ _ (at .inv .1) (omega (arith, v .0, v .1)) (c .store .ensures) (c .before .before .valuation-row .ensures))
+    let few : 2 * at .w + 1 < 32 = omega (arith, v .0, v .1) in (
+      omega arith,
+      filled-more valued (at .out) _ (at .w) _ _ (at .inv .1) few (c .store .ensures) (c .before .before .valuation-row .ensures),
+      empty-after (at .out) _ (at .w) _ _ (omega (arith, few, at .inv .1 .size)) (c .store .ensures) (at .inv .2),
+    )
 
 returns : tie.Need-returns Inv-loop μ-loop
-returns c w s l =
+returns c =
     let v = valuations (c .before .before .before .before .args .v) (omega arith) in
-    c .before .loop .inv .1 .rows w s (omega (arith, v .0, v .1))
+    let e : c .before .loop .w ≡ 2 ^ c .before .before .before .before .args .v = omega (arith, v .0, v .1) in
+    let l = c .before .loop in
+    (λ w h. l .inv .2 w (rw e h), λ w s h. l .inv .1 .rows w s (rw e h))
 
 pub valuation-table-spec : {M : Type 1} → statement M
 valuation-table-spec =

@@ -17,7 +17,7 @@ abbrev Earlier : List ℕ → ℕ → ℕ → ℕ → Bool → Type 0
 Earlier next n i s b = b ≡ (leb s n && (within 1 128 s && rowsHas next (s - 1) (i + 1)))
 
 abbrev Inv-loop : tie.InvT-loop
-Inv-loop next n out₀ t₀ out t = Filled (Earlier next n) t out
+Inv-loop next n out₀ t₀ out t = Filled 512 (Earlier next n) t out
 
 abbrev μ-loop : tie.MeasureT-loop
 μ-loop next n out₀ t₀ out t = n - t

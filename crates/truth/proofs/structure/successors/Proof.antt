@@ -5,7 +5,7 @@ use borrow.Author.Tests.{ltb-false}
 use mathlib.Core.Bool.{Bool, _&&_}
 use mathlib.Core.Path.{_≡_}
 use mathlib.Core.List.{List}
-use Prim.Native.Nat.{ℕ, _+_, _-_}
+use Prim.Native.Nat.{ℕ, _+_, _-_, _<_}
 use native.Mathlib.Omega.{arith}
 use Rattle.sheets.specs.Words.{within}
 use Rattle.sheets.specs.Machine.{kripke}
@@ -18,7 +18,7 @@ abbrev Next : List ℕ → ℕ → ℕ → Bool → Type 0
 Next m i t b = b ≡ (within 1 128 t && kripke m .edge (i + 1) t)
 
 abbrev Inv-loop : tie.InvT-loop
-Inv-loop m n out₀ s₀ out s = Filled (Next m) s out
+Inv-loop m n out₀ s₀ out s = Filled 512 (Next m) s out
 
 abbrev μ-loop : tie.MeasureT-loop
 μ-loop m n out₀ s₀ out s = n - s
@@ -54,7 +54,8 @@ loop-again : tie.Need-loop-again Inv-loop μ-loop
 loop-again c =
     let a = c .before .before .before .before .before .before .before .before .before .args in
     let at = c .before .before .before .before .before .before .loop in
-    filled-more (Next (a .m .now)) (at .out) _ (at .s) _ _ (at .inv) (search needs) (c .store .ensures) (c .before .before .successor-row .ensures)
+    let few : at .s < 256 = search needs in
+    filled-more (Next (a .m .now)) (at .out) _ (at .s) _ _ (at .inv) (omega arith) (c .store .ensures) (c .before .before .successor-row .ensures)
 
 returns : tie.Need-returns Inv-loop μ-loop
 returns c s t l n m = let e : s - 1 + 1 ≡ s = omega arith in rw e at (c .before .before .loop .inv .rows (s - 1) t (omega (arith, ltb-false)))

@@ -7,12 +7,13 @@ use native.Mathlib.Omega.{arith}
 use lib.Dec.{T}
 use Rattle.truth.specs.Rows.{rowHas, rowsHas}
 use Rattle.truth.specs.Pairs.{Before}
+use Rattle.truth.proofs.rows.RowLaws.{held-in}
 use Rattle.truth.proofs.tables.TableLaws.{Filled, filled-none, filled-more}
 use Rattle.truth.proofs.trimming.befores.Statement.{statement}
 use Rattle.truth.proofs.trimming.befores.Tie as tie
 
 abbrev Inv-loop : tie.InvT-loop
-Inv-loop back t xs out₀ k₀ out k = (k ≤ t) × Filled (λ j s b. T b ↔ Before back (rowsHas xs j) s) k out
+Inv-loop back t xs out₀ k₀ out k = (k ≤ t) × Filled 32 (λ j s b. T b ↔ Before back (rowsHas xs j) s) k out
 
 abbrev μ-loop : tie.MeasureT-loop
 μ-loop back t xs out₀ k₀ out k = t - k
@@ -23,8 +24,8 @@ loop-holds c = (search needs, filled-none _ _ (search needs))
 load-requires : tie.Need-load-requires Inv-loop μ-loop
 load-requires c κs = omega arith
 
-before-requires : tie.Need-before-requires Inv-loop μ-loop
-before-requires c κs = omega arith
+together-requires : tie.Need-together-requires Inv-loop μ-loop
+together-requires c κs = λ u t. omega (arith, held-in _ _ u t .1)
 
 store-requires : tie.Need-store-requires Inv-loop μ-loop
 store-requires c κs = omega arith
@@ -37,10 +38,10 @@ loop-less c = omega arith
 
 loop-again : tie.Need-loop-again Inv-loop μ-loop
 loop-again c =
-    let a = c .before .before .before .before .before .before .args in
-    let at = c .before .before .before .before .before .loop in
-    let row = c .before .before .before .load .ensures in
-    let pre = c .before .before .before2 in
+    let a = c .before .before .before .before .before .before .before .args in
+    let at = c .before .before .before .before .before .before .loop in
+    let row = c .before .before .before .before .load .ensures in
+    let pre = c .before .before .together in
     let here : (s : ℕ) → T (rowHas (pre .result) s) ↔ Before (a .back .now) (rowsHas (a .xs .now) (at .k)) s = rw (row .0, row .1) at (pre .ensures) in
     (search needs, filled-more _ (at .out) _ (at .k) _ _ (at .inv .1) (omega arith) (c .store .ensures) here)
 
@@ -57,7 +58,7 @@ befores-spec =
     μ-loop
     loop-holds
     load-requires
-    before-requires
+    together-requires
     store-requires
     add-k
     loop-less

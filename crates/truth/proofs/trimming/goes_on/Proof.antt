@@ -1,27 +1,46 @@
--- `goes_on` meets its contract. The invariant: the row has what goes on to a position below k. The measure is what is left of the positions.
-use borrow.Author.Needs.{needs}
-use mathlib.Core.Path.{_≡_}
-use Prim.Native.Nat.{ℕ, _≤_, _-_}
+-- `goes_on` meets its contract. The invariant: the nodes of the positions that are no longer left are in the row. The measure is how many are left.
+use Prim.Native.Nat.{_-_, _≤_}
 use native.Mathlib.Omega.{arith}
-use mathlib.Core.Logic.{_↔_}
-use lib.Dec.{T}
+use Rattle.sheets.proofs.Counting.{number}
 use Rattle.truth.specs.Rows.{rowHas}
-use Rattle.truth.specs.Trimmed.{SomeBelow}
-use Rattle.truth.proofs.trimming.TrimSteps.{Through, below-none, through-next}
+use Rattle.truth.proofs.rows.RowWalks.{none-left, one-left, one-within, less-falls}
+use Rattle.truth.proofs.trimming.TrimSteps.{Passing, passing-none, passing-next, passing-end}
 use Rattle.truth.proofs.trimming.goes_on.Statement.{statement}
 use Rattle.truth.proofs.trimming.goes_on.Tie as tie
 
 abbrev Inv-loop : tie.InvT-loop
-Inv-loop allow table t p out₀ k₀ out k = (k ≤ t) × ((s : ℕ) → T (rowHas out s) ↔ SomeBelow k (Through allow table p s))
+Inv-loop allow table p out₀ left₀ out left = Passing allow table p (rowHas left₀) (rowHas left) (rowHas out)
 
 abbrev μ-loop : tie.MeasureT-loop
-μ-loop allow table t p out₀ k₀ out k = t - k
+μ-loop allow table p out₀ left₀ out left = number 128 (rowHas left)
+
+-- the member that is found
+few : (c : tie.Else1 Inv-loop μ-loop) → (1 ≤ c .before .first .result) × (c .before .first .result ≤ 16)
+few c =
+    let f = c .before .first .ensures in
+    let n = c .if1 .left in
+    (one-within _ _ _ f n .0, c .before .before .before .before .pre .1 _ (c .before .before .loop .inv .visited .fewer _ (one-left _ _ f n)))
 
 empty-requires : tie.Need-empty-requires Inv-loop μ-loop
 empty-requires c κs = omega arith
 
 loop-holds : tie.Need-loop-holds Inv-loop μ-loop
-loop-holds c = (search needs, λ s. (λ t. absurd (rw (c .empty .ensures s) at t), λ r. absurd (below-none _ r)))
+loop-holds c = passing-none _ _ _ _ _ (c .empty .ensures)
+
+first-requires : tie.Need-first-requires Inv-loop μ-loop
+first-requires c κs = omega arith
+
+returns : tie.Need-returns Inv-loop μ-loop
+returns c = passing-end _ _ _ _ _ _ (c .before .before .loop .inv) (none-left _ _ (c .before .first .ensures) (c .if1 .taken))
+
+without-requires : tie.Need-without-requires Inv-loop μ-loop
+without-requires c κs = omega arith
+
+cast-k : tie.Need-cast-k Inv-loop μ-loop
+cast-k c = omega arith
+
+sub-k : tie.Need-sub-k Inv-loop μ-loop
+sub-k c = omega (arith, few (c .before))
 
 mul-load : tie.Need-mul-load Inv-loop μ-loop
 mul-load c = omega arith
@@ -30,10 +49,10 @@ add-load : tie.Need-add-load Inv-loop μ-loop
 add-load c = omega arith
 
 load-requires : tie.Need-load-requires Inv-loop μ-loop
-load-requires c κs = omega arith
+load-requires c κs = omega (arith, few (c .before), c .before .before .before .before .before .pre .0)
 
 load-requires-2 : tie.Need-load-requires-2 Inv-loop μ-loop
-load-requires-2 c κs = omega arith
+load-requires-2 c κs = omega (arith, few (c .before .before))
 
 intersection-requires : tie.Need-intersection-requires Inv-loop μ-loop
 intersection-requires c κs = omega arith
@@ -41,28 +60,19 @@ intersection-requires c κs = omega arith
 union-requires : tie.Need-union-requires Inv-loop μ-loop
 union-requires c κs = omega arith
 
-add-k : tie.Need-add-k Inv-loop μ-loop
-add-k c = omega arith
-
 loop-less : tie.Need-loop-less Inv-loop μ-loop
-loop-less c = omega arith
+loop-less c =
+    let n = c .before .before .before .before .before .if1 .left in
+    let f = c .before .before .before .before .before .before .first .ensures in
+    let r = one-within _ _ _ f n in
+    less-falls _ _ _ (c .before .before .before .before .without .ensures) (r .0) (r .1) (one-left _ _ f n)
 
 loop-again : tie.Need-loop-again Inv-loop μ-loop
 loop-again c =
-    let a = c .before .before .before .before .before .before .before .args in
-    let at = c .before .before .before .before .before .loop in
     let may = c .before .before .before .load .ensures in
-    let there = c .before .before .load2 .ensures in (
-      search needs,
-      λ s.
-          through-next (a .allow .now) (a .table .now) (a .p) s (at .k) _ _ _ _ (rowHas (at .out) s) (rowHas (c .union .result) s) (rowHas (c .before .intersection .result) s)
-          (at .inv .1 s) (c .union .ensures s) (c .before .intersection .ensures s) (may .0) (may .1) (there .0) (there .1),
-    )
-
-returns : tie.Need-returns Inv-loop μ-loop
-returns c =
-    let e : c .before .loop .k ≡ c .before .before .before .args .t = omega arith in
-    rw e at (c .before .loop .inv .1)
+    let there = c .before .before .load2 .ensures in
+    passing-next _ _ _ _ _ _ (c .before .before .before .before .before .before .before .loop .inv) _ _ (rowHas (c .before .intersection .result)) _ _ _ _ _ (one-left _ _ (c .before .before .before .before .before .before .first .ensures) (c .before .before .before .before .before .if1 .left))
+    (c .before .before .before .before .without .ensures) (c .union .ensures) (c .before .intersection .ensures) (may .0) (may .1) (there .0) (there .1)
 
 pub goes-on-spec : {M : Type 1} → statement M
 goes-on-spec =
@@ -72,13 +82,16 @@ goes-on-spec =
     μ-loop
     empty-requires
     loop-holds
+    first-requires
+    returns
+    without-requires
+    cast-k
+    sub-k
     mul-load
     add-load
     load-requires
     load-requires-2
     intersection-requires
     union-requires
-    add-k
     loop-less
-    loop-again
-    returns)
+    loop-again)

@@ -1,6 +1,8 @@
 -- `steps_on` meets its contract: a step to p2, or one to any position.
+use Prim.Native.Nat.{_+_, _*_}
 use native.Mathlib.Omega.{arith}
-use Rattle.truth.proofs.trimming.TrimSteps.{meeting-onward, onward-meeting, meets-onward}
+use Rattle.truth.proofs.tables.LinkedSets.{among-below, below-among}
+use Rattle.truth.proofs.trimming.TrimSteps.{Meeting, meeting-onward, onward-meeting, meets-onward}
 use Rattle.truth.proofs.trimming.steps_on.Statement.{statement}
 use Rattle.truth.proofs.trimming.steps_on.Tie as tie
 
@@ -25,16 +27,25 @@ returns c =
     let on = meets-onward (a .allow .now) (a .next .now) (a .xs .now) (a .t) (a .p) (a .s) _ _ (to .0) (to .1) (a .p2) _ _ _ (pre .1) (pre .5) (there .0) (there .1) (c .before .meets .ensures) (c .if1 .taken) in
     (λ _. on, λ _. tt)
 
+load-requires-3 : tie.Need-load-requires-3
+load-requires-3 c κs = omega (arith, c .before .before .before .before .pre .0, c .before .before .before .before .pre .2)
+
 steps-into-requires : tie.Need-steps-into-requires
-steps-into-requires c κs = omega arith
+steps-into-requires c κs =
+    let pre = c .before .before .before .before .before .pre in
+    let on = c .load3 .ensures in
+    (omega (arith, pre .0, pre .2), λ u t. omega (arith, pre .2, pre .6 .few _ u (rw (on .0, on .1) at t)))
 
 returns-2 : tie.Need-returns-2
 returns-2 c =
-    let a = c .before .before .before .before .before .args in
-    let to = c .before .before .before .before .load .ensures in
-    let is = c .steps-into .ensures in (
-      λ y. meeting-onward (a .allow .now) (a .next .now) (a .xs .now) (a .t) (a .p) (a .s) _ _ (to .0) (to .1) (is .0 y),
-      λ o. is .1 (onward-meeting (a .allow .now) (a .next .now) (a .xs .now) (a .t) (a .p) (a .s) _ _ (to .0) (to .1) o),
+    let a = c .before .before .before .before .before .before .args in
+    let pre = c .before .before .before .before .before .before .pre in
+    let to = c .before .before .before .before .before .load .ensures in
+    let on = c .before .load3 .ensures in
+    let is = rw (on .0, on .1) at (c .steps-into .ensures) in
+    let meeting = Meeting (a .allow .now) (a .xs .now) _ _ (a .p) (a .s) in (
+      λ y. meeting-onward (a .allow .now) (a .next .now) (a .xs .now) (a .t) (a .p) (a .s) _ _ (to .0) (to .1) (among-below (λ p q. 16 * p + q) (pre .6) (a .p) meeting (is .0 y)),
+      λ o. is .1 (below-among (λ p q. 16 * p + q) (pre .6) (a .p) meeting (pre .0) (λ q m. (a .s, m .0)) (onward-meeting (a .allow .now) (a .next .now) (a .xs .now) (a .t) (a .p) (a .s) _ _ (to .0) (to .1) o)),
     )
 
 pub steps-on-spec : {M : Type 1} → statement M
@@ -46,5 +57,6 @@ steps-on-spec =
     load-requires-2
     meets-requires
     returns
+    load-requires-3
     steps-into-requires
     returns-2)

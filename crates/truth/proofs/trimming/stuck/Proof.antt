@@ -12,10 +12,10 @@ use Rattle.truth.proofs.trimming.stuck.Statement.{statement}
 use Rattle.truth.proofs.trimming.stuck.Tie as tie
 
 abbrev Inv-loop : tie.InvT-loop
-Inv-loop allow next t p p2 xs out₀ left₀ out left = Sorted (Onward allow next t (rowsHas xs) p) (rowHas left₀) (rowHas left) (rowHas out)
+Inv-loop allow next onto t p p2 xs out₀ left₀ out left = Sorted (Onward allow next t (rowsHas xs) p) (rowHas left₀) (rowHas left) (rowHas out)
 
 abbrev μ-loop : tie.MeasureT-loop
-μ-loop allow next t p p2 xs out₀ left₀ out left = number 128 (rowHas left)
+μ-loop allow next onto t p p2 xs out₀ left₀ out left = number 128 (rowHas left)
 
 empty-requires : tie.Need-empty-requires Inv-loop μ-loop
 empty-requires c κs = omega arith
@@ -38,7 +38,7 @@ steps-on-requires c κs =
     let n = c .before .if1 .left in
     let f = c .before .before .first .ensures in
     let r = one-within _ _ _ f n in
-    (pre .0, pre .1, pre .2, r .0, r .1, pre .3 _ (c .before .before .before .loop .inv .rest _ (one-left _ _ f n)))
+    (pre .0, pre .1, pre .2, r .0, r .1, pre .3 _ (c .before .before .before .loop .inv .rest _ (one-left _ _ f n)), pre .4)
 
 with-requires : tie.Need-with-requires Inv-loop μ-loop
 with-requires c κs = omega arith

@@ -14,13 +14,13 @@ use Rattle.truth.proofs.trimming.trim.Statement.{statement}
 use Rattle.truth.proofs.trimming.trim.Tie as tie
 
 abbrev Inv-loop : tie.InvT-loop
-Inv-loop allow next back t rows₀ gone₀ rows gone = (b : Bool) × Trimmed allow next back t rows₀ gone₀ rows gone b
+Inv-loop allow next back into onto t rows₀ gone₀ rows gone = (b : Bool) × Trimmed allow next back t rows₀ gone₀ rows gone b
 
 abbrev μ-loop : tie.MeasureT-loop
-μ-loop allow next back t rows₀ gone₀ rows gone = weight t (rowsHas rows) (rowsHas gone)
+μ-loop allow next back into onto t rows₀ gone₀ rows gone = weight t (rowsHas rows) (rowsHas gone)
 
 trim-first-requires : tie.Need-trim-first-requires Inv-loop μ-loop
-trim-first-requires c κs = (search needs, search needs, refl, λ p s x. rw (zero-row 512 p s) at x)
+trim-first-requires c κs = (search needs, search needs, refl, λ p s x. rw (zero-row 32 p s) at x, c .before .before .pre .2)
 
 loop-holds : tie.Need-loop-holds Inv-loop μ-loop
 loop-holds c = (false, trimmed-idle)
@@ -29,8 +29,8 @@ trim-round-requires : tie.Need-trim-round-requires Inv-loop μ-loop
 trim-round-requires c κs =
     let first = c .before .before .before .trim-first .ensures in
     let g = c .before .before .loop .inv .1 in
-    let long : length (c .before .before .before .before .before .before .args .xs) ≡ 512 = search needs in
-    (search needs, g .shrunk .size ∙ first .0 .size ∙ long, g .shrunk .size-gone ∙ first .1)
+    let long : length (c .before .before .before .before .before .before .args .xs) ≡ 32 = search needs in
+    (search needs, g .shrunk .size ∙ first .0 .size ∙ long, g .shrunk .size-gone ∙ first .1, c .before .before .before .before .before .before .pre .1, c .before .before .before .before .before .before .pre .2)
 
 returns : tie.Need-returns Inv-loop μ-loop
 returns c =

@@ -1,6 +1,6 @@
 -- `trim_first` meets its contract. The invariant: the rows below p have lost what has nothing ahead. The measure is what is left of the positions.
 use borrow.Author.Needs.{needs}
-use mathlib.Core.Path.{_≡_}
+use mathlib.Core.Path.{_≡_, _∙_}
 use Prim.Native.Nat.{_≤_, _-_}
 use native.Mathlib.Omega.{arith}
 use lib.ListN.{length}
@@ -10,10 +10,10 @@ use Rattle.truth.proofs.trimming.trim_first.Statement.{statement}
 use Rattle.truth.proofs.trimming.trim_first.Tie as tie
 
 abbrev Inv-loop : tie.InvT-loop
-Inv-loop allow back t xs₀ gone₀ table p₀ xs gone p = (p ≤ t) × (length gone ≡ 512) × Started allow back t p xs₀ xs gone
+Inv-loop allow back onto t xs₀ gone₀ table p₀ xs gone p = (p ≤ t) × (length gone ≡ 32) × Started allow back t p xs₀ xs gone
 
 abbrev μ-loop : tie.MeasureT-loop
-μ-loop allow back t xs₀ gone₀ table p₀ xs gone p = t - p
+μ-loop allow back onto t xs₀ gone₀ table p₀ xs gone p = t - p
 
 befores-requires : tie.Need-befores-requires Inv-loop μ-loop
 befores-requires c κs = omega arith
@@ -22,7 +22,10 @@ loop-holds : tie.Need-loop-holds Inv-loop μ-loop
 loop-holds c = (search needs, c .before .before .pre .2, started-none (c .before .before .pre .3))
 
 start-row-requires : tie.Need-start-row-requires Inv-loop μ-loop
-start-row-requires c κs = omega (arith, c .before .before .before .before .loop .inv .2 .size)
+start-row-requires c κs =
+    let pre = c .before .before .before .before .before .before .before .pre in
+    let l = c .before .before .before .before .loop in
+    (omega arith, pre .0, l .inv .2 .size ∙ pre .1, l .inv .1, pre .4)
 
 add-p : tie.Need-add-p Inv-loop μ-loop
 add-p c = omega arith

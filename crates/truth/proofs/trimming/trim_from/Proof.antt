@@ -41,25 +41,31 @@ empty-requires c κs = omega arith
 store-requires : tie.Need-store-requires
 store-requires c κs = omega arith
 
-before-requires : tie.Need-before-requires
-before-requires c κs = omega arith
+together-requires : tie.Need-together-requires
+together-requires c κs = λ u t. omega (arith, held-in _ _ u t .1)
+
+load-requires-2 : tie.Need-load-requires-2
+load-requires-2 c κs = omega (arith, c .before .before .before .before .before .before .before .before .before .pre .0, c .before .before .before .before .before .before .before .before .before .pre .1)
 
 trim-into-requires : tie.Need-trim-into-requires
 trim-into-requires c κs =
-    let pre = start (c .before .before .before) .pre in
-    (pre .0, pre .1, pre .2, cleared (c .before .before .before) .size ∙ pre .3)
+    let pre = c .before .before .before .before .before .before .before .before .before .before .before .before .pre in
+    let on = c .before .before .load2 .ensures in
+    (pre .0, pre .1, pre .2, cleared (c .before .before .before .before .before) .size ∙ pre .3, λ u t. pre .4 .few _ u (rw (on .0, on .1) at t), pre .5)
 
 returns-2 : tie.Need-returns-2
 returns-2 c =
-    let a = start (c .before .before .before .before) .args in
-    let asked = c .before .before .before .before .before .before .before .before in
-    let from = asked .before .load .ensures in
-    let pre = c .before .before .before .before2 in
+    let a = c .before .before .before .before .before .before .before .before .before .before .before .before .before .args in
+    let asked = c .before .before .before .before .before .before .before .before .before .before in
+    let from = c .before .before .before .before .before .before .before .before .before .before .before .load .ensures in
+    let on = c .before .before .before .load2 .ensures in
+    let pre = c .before .before .before .before .together in
     let ahead : (s : ℕ) → T (rowHas (pre .result) s) ↔ Before (a .back .now) (rowsHas (a .gone .now) (a .p2)) s = rw (from .0, from .1) at (pre .ensures) in
     let some : each 128 (λ s. not (rowsHas (a .gone .now) (a .p2) s)) ≡ false =
-    rw (from .0, from .1) at (sym (asked .is-empty .ensures) ∙ c .before .before .before .before .before .before .before .if1 .left) in
-    let m = c .trim-into .ensures in (
-      trimmed-row (a .back .now) (a .gone .now) (a .p2) (rowHas (pre .result)) (cleared (c .before .before .before .before)) ahead (m .0) (m .1) (start (c .before .before .before .before) .pre .0) some,
+    rw (from .0, from .1) at (sym (asked .is-empty .ensures) ∙ c .before .before .before .before .before .before .before .before .before .if1 .left) in
+    let m = c .trim-into .ensures in
+    let known = c .before .before .before .before .before .before .before .before .before .before .before .before .before .pre in (
+      trimmed-row (a .back .now) (a .gone .now) (a .p2) (rowHas (pre .result)) (cleared (c .before .before .before .before .before .before)) ahead (m .0) (a .into .now) (known .4) (rw (on .0, on .1) at (m .1)) (known .0) some,
       λ y. absurd (true≢false y),
     )
 
@@ -72,6 +78,7 @@ trim-from-spec =
     returns
     empty-requires
     store-requires
-    before-requires
+    together-requires
+    load-requires-2
     trim-into-requires
     returns-2)

@@ -7,10 +7,10 @@ use Rattle.truth.proofs.trimming.trim_round.Statement.{statement}
 use Rattle.truth.proofs.trimming.trim_round.Tie as tie
 
 abbrev Inv-loop : tie.InvT-loop
-Inv-loop allow next back t xs₀ gone₀ changed₀ k₀ xs gone changed k = (k ≤ t) × Round allow next back t k xs₀ gone₀ xs gone changed
+Inv-loop allow next back into onto t xs₀ gone₀ changed₀ k₀ xs gone changed k = (k ≤ t) × Round allow next back t k xs₀ gone₀ xs gone changed
 
 abbrev μ-loop : tie.MeasureT-loop
-μ-loop allow next back t xs₀ gone₀ changed₀ k₀ xs gone changed k = t - k
+μ-loop allow next back into onto t xs₀ gone₀ changed₀ k₀ xs gone changed k = t - k
 
 loop-holds : tie.Need-loop-holds Inv-loop μ-loop
 loop-holds c = (search needs, round-none)
@@ -21,7 +21,8 @@ add-k c = omega arith
 trim-from-requires : tie.Need-trim-from-requires Inv-loop μ-loop
 trim-from-requires c κs =
     let g = c .before .before .before .loop .inv .1 .trimmed .shrunk in
-    omega (arith, g .size, g .size-gone)
+    let pre = c .before .before .before .before .pre in
+    (omega arith, pre .0, omega (arith, g .size, pre .1), omega (arith, g .size-gone, pre .2), pre .3, pre .4)
 
 loop-less : tie.Need-loop-less Inv-loop μ-loop
 loop-less c = omega arith

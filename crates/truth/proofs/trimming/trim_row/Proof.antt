@@ -44,7 +44,7 @@ returns c =
 stuck-requires : tie.Need-stuck-requires
 stuck-requires c κs =
     let pre = c .before .before .before .before .before .before .before .before .pre in
-    (omega (arith, pre .0, pre .2), pre .1, pre .2, look-allowed (looked (c .before .before .before)))
+    (pre .0, pre .1, pre .2, look-allowed (looked (c .before .before .before)), pre .5)
 
 take-out-requires : tie.Need-take-out-requires
 take-out-requires c κs = omega arith

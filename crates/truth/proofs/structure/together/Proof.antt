@@ -1,16 +1,16 @@
--- `before` meets its contract. The invariant: what is before a node that is no longer left is gathered. The measure is how many are left.
+-- `together` meets its contract. The invariant: the rows of the members that are no longer left are gathered. The measure is how many are left.
 use native.Mathlib.Omega.{arith}
 use Rattle.sheets.proofs.Counting.{number}
 use Rattle.truth.specs.Rows.{rowHas}
 use Rattle.truth.proofs.rows.RowWalks.{none-left, one-left, one-within, less-falls, Gathered, gathered-none, gathered-next, gathered-end}
-use Rattle.truth.proofs.structure.before.Statement.{statement}
-use Rattle.truth.proofs.structure.before.Tie as tie
+use Rattle.truth.proofs.structure.together.Statement.{statement}
+use Rattle.truth.proofs.structure.together.Tie as tie
 
 abbrev Inv-loop : tie.InvT-loop
-Inv-loop back out₀ left₀ out left = Gathered back (rowHas left₀) (rowHas left) (rowHas out)
+Inv-loop table out₀ left₀ out left = Gathered table (rowHas left₀) (rowHas left) (rowHas out)
 
 abbrev μ-loop : tie.MeasureT-loop
-μ-loop back out₀ left₀ out left = number 128 (rowHas left)
+μ-loop table out₀ left₀ out left = number 128 (rowHas left)
 
 empty-requires : tie.Need-empty-requires Inv-loop μ-loop
 empty-requires c κs = omega arith
@@ -24,14 +24,14 @@ first-requires c κs = omega arith
 returns : tie.Need-returns Inv-loop μ-loop
 returns c = gathered-end _ _ _ _ (c .before .before .loop .inv) (none-left _ _ (c .before .first .ensures) (c .if1 .taken))
 
-cast-load : tie.Need-cast-load Inv-loop μ-loop
-cast-load c = omega arith
+cast-line-row : tie.Need-cast-line-row Inv-loop μ-loop
+cast-line-row c = omega arith
 
-sub-load : tie.Need-sub-load Inv-loop μ-loop
-sub-load c = omega arith
-
-load-requires : tie.Need-load-requires Inv-loop μ-loop
-load-requires c κs = let r = one-within _ _ _ (c .before .first .ensures) (c .if1 .left) in omega arith
+line-row-requires : tie.Need-line-row-requires Inv-loop μ-loop
+line-row-requires c κs =
+    let f = c .before .first .ensures in
+    let n = c .if1 .left in
+    (one-within _ _ _ f n .0, c .before .before .before .before .before .pre _ (c .before .before .loop .inv .fewer _ (one-left _ _ f n)))
 
 union-requires : tie.Need-union-requires Inv-loop μ-loop
 union-requires c κs = omega arith
@@ -48,12 +48,12 @@ loop-less c =
 
 loop-again : tie.Need-loop-again Inv-loop μ-loop
 loop-again c =
-    let l = c .before .before .load .ensures in
+    let l = c .before .before .line-row .ensures in
     let t = one-left _ _ (c .before .before .before .before .first .ensures) (c .before .before .before .if1 .left) in
     gathered-next _ _ _ _ _ _ _ _ _ (c .before .before .before .before .before .loop .inv) t (c .without .ensures) (l .0) (l .1) (c .before .union .ensures)
 
-pub before-spec : {M : Type 1} → statement M
-before-spec =
+pub together-spec : {M : Type 1} → statement M
+together-spec =
     tie.close
     (tie.spec
     Inv-loop
@@ -62,9 +62,8 @@ before-spec =
     loop-holds
     first-requires
     returns
-    cast-load
-    sub-load
-    load-requires
+    cast-line-row
+    line-row-requires
     union-requires
     without-requires
     loop-less

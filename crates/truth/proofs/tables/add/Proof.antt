@@ -1,0 +1,31 @@
+-- `add` meets its contract: the row is stored with one member more.
+use borrow.Author.Needs.{needs}
+use mathlib.Core.Path.{_≡_}
+use Prim.Native.Nat.{_+_, _-_, _*_, _<_}
+use native.Mathlib.Omega.{arith}
+use lib.ListN.{length}
+use Rattle.truth.proofs.tables.LinkedSets.{joined}
+use Rattle.truth.proofs.tables.add.Statement.{statement}
+use Rattle.truth.proofs.tables.add.Tie as tie
+
+line-row-requires : tie.Need-line-row-requires
+line-row-requires c κs = search needs
+
+with-requires : tie.Need-with-requires
+with-requires c κs = search needs
+
+set-line-row-requires : tie.Need-set-line-row-requires
+set-line-row-requires c κs = search needs
+
+same-length : tie.Need-same-length
+same-length c = search needs
+
+returns : tie.Need-returns
+returns c =
+    let a = c .before .before .before .before .before .before .before .before .args in
+    let row = c .before .before .before .before .before .line-row .ensures in
+    let fits : 2 * (a .j - 1) + 1 < length (a .rows .now) = omega (arith, c .before .before .before .before .before .before .before .before .pre) in
+    joined (a .rows .now) _ (a .j - 1) (a .s) _ _ fits (c .before .before .set-line-row .ensures) (λ i. rw (row .0, row .1) at (c .before .before .before .with .ensures i))
+
+pub add-spec : {M : Type 1} → statement M
+add-spec = tie.close (tie.spec line-row-requires with-requires set-line-row-requires same-length returns)

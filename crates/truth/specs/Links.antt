@@ -1,0 +1,31 @@
+-- Which positions an automaton may go between at some node, as sets: position p is member p + 1.
+use mathlib.Core.Path.{_≡_}
+use Prim.Native.Nat.{ℕ, _+_, _-_, _*_, _≤_, _<_}
+use mathlib.Core.List.{List}
+use mathlib.Core.Bool.{Bool, _&&_, _||_}
+use lib.ListN.{length}
+use lib.Dec.{T, eqb}
+use Rattle.sheets.specs.Words.{within}
+use Rattle.truth.specs.Rows.{rowsHas}
+
+-- `after` is `before` with member s more in row k
+pub record Joined (k s : ℕ) (before after : List ℕ) : Type 0 where
+  pub size : length after ≡ length before
+  pub rows : (q i : ℕ) → rowsHas after q i ≡ (rowsHas before q i || (eqb q k && (within 1 128 s && eqb i s)))
+
+-- Row k of `sets` has only positions below t, and each position q for which row `cell k q` of `allow` has a node.
+pub record Linked (cell : ℕ → ℕ → ℕ) (allow sets : List ℕ) (t : ℕ) : Type 0 where
+  pub size : length sets ≡ 32
+  pub few : (k u : ℕ) → T (rowsHas sets k u) → u ≤ t
+  pub all : (k q s : ℕ) → k < t → q < t → T (rowsHas allow (cell k q) s) → T (rowsHas sets k (q + 1))
+
+-- by position those that it may be entered from, and those that it may go to
+abbrev pub Into : List ℕ → List ℕ → ℕ → Type 0
+Into = Linked (λ k q. 16 * q + k)
+
+abbrev pub Onto : List ℕ → List ℕ → ℕ → Type 0
+Onto = Linked (λ p q. 16 * p + q)
+
+-- some member u of the set, with P of its position
+abbrev pub Among : (ℕ → Bool) → (ℕ → Type 0) → Type 0
+Among set P = (u : ℕ) × T (set u) × P (u - 1)
