@@ -192,16 +192,16 @@ fn turn(
     line: &mut [u16; 256],
     words: &mut [u16; 5632],
     stand: Stand,
+    tail1: Tail,
+    tail2: Tail,
 ) -> Stand
-    requires { ⌜ Staged (now m1) (now m2) 5 (state (now first) (now second) (now line) (now words) stand) ⌝ }
+    requires { ⌜ Staged (now m1) (now m2) 5 (state (now first) (now second) (now line) (now words) stand) × TailOf (now m1) tail1 × TailOf (now m2) tail2 ⌝ }
     ensures { λ r. ⌜
         Turned (now (m1 .entry)) (now (m2 .entry))
         (state (now (first .entry)) (now (second .entry)) (now (line .entry)) (now (words .entry)) stand)
         (state (now (first .exit)) (now (second .exit)) (now (line .exit)) (now (words .exit)) r)
         ⌝ }
 {
-    let tail1 = structure::shared_tail(m1);
-    let tail2 = structure::shared_tail(m2);
     let mut mark1 = marks(first, stand.count);
     let mut mark2 = marks(second, stand.count);
     let mut all = structure::node_row(stand.count);
@@ -244,14 +244,16 @@ fn by_nexts(
     line: &mut [u16; 256],
     words: &mut [u16; 5632],
     stand: Stand,
+    tail1: Tail,
+    tail2: Tail,
 ) -> Stand
-    requires { ⌜ Signalled (now m1) (now m2) (state (now first) (now second) (now line) (now words) stand) ⌝ }
+    requires { ⌜ Signalled (now m1) (now m2) (state (now first) (now second) (now line) (now words) stand) × TailOf (now m1) tail1 × TailOf (now m2) tail2 ⌝ }
     ensures { λ r. ⌜ Settled (now (m1 .entry)) (now (m2 .entry)) (state (now (first .exit)) (now (second .exit)) (now (line .exit)) (now (words .exit)) r) ⌝ }
 {
     let mut so_far = stand;
     loop {
         let n = so_far.count;
-        so_far = turn(m1, m2, first, second, line, words, so_far);
+        so_far = turn(m1, m2, first, second, line, words, so_far, tail1, tail2);
         if so_far.count == n {
             return so_far;
         }
@@ -304,6 +306,8 @@ pub fn refine(m1: &[u16], m2: &[u16]) -> Partition
         &mut words,
         begun,
     );
+    let tail1 = structure::shared_tail(m1);
+    let tail2 = structure::shared_tail(m2);
     let settled = by_nexts(
         m1,
         m2,
@@ -312,6 +316,8 @@ pub fn refine(m1: &[u16], m2: &[u16]) -> Partition
         &mut line,
         &mut words,
         signalled,
+        tail1,
+        tail2,
     );
     Partition {
         first: first,

@@ -21,7 +21,7 @@ use crate::labelling::sheet_of;
 use crate::lines::solve;
 use crate::product::chain_states;
 use crate::structure;
-use crate::tables::load;
+use crate::positions::load;
 use crate::walk::walk;
 use sheets::automata;
 use sheets::checks;

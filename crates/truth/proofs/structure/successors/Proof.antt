@@ -1,6 +1,6 @@
 -- `successors` meets its contract. The invariant: the first s rows have the successors of the nodes 1 to s. The measure is the nodes left.
 use borrow.Author.Needs.{needs}
-use mathlib.Core.Logic.{inl}
+use Rattle.truth.proofs.structure.TargetRows.{no-tail-of}
 use borrow.Author.Tests.{ltb-false}
 use mathlib.Core.Bool.{Bool, _&&_}
 use mathlib.Core.Path.{_≡_}
@@ -36,7 +36,7 @@ no-tail-requires : tie.Need-no-tail-requires Inv-loop μ-loop
 no-tail-requires c κs = search needs
 
 successor-row-requires : tie.Need-successor-row-requires Inv-loop μ-loop
-successor-row-requires c κs = inl (c .no-tail .ensures)
+successor-row-requires c κs = no-tail-of _ _ (c .no-tail .ensures)
 
 cast-store : tie.Need-cast-store Inv-loop μ-loop
 cast-store c = omega arith
