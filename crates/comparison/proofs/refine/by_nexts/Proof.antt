@@ -1,5 +1,6 @@
 -- `by_nexts` meets its contract. The invariant: no signal splits a block. The measure is the blocks that may still come.
 use Prim.Native.Nat.{_-_}
+use Rattle.truth.specs.Targets.{TailOf}
 use Rattle.comparison.specs.Tables.{state}
 use Rattle.comparison.specs.Stages.{Signalled}
 use Rattle.comparison.proofs.SettlingBlocks.{signalled-on, settled-end, turns-fewer}
@@ -7,16 +8,17 @@ use Rattle.comparison.proofs.refine.by_nexts.Statement.{statement}
 use Rattle.comparison.proofs.refine.by_nexts.Tie as tie
 
 abbrev Inv-loop : tie.InvT-loop
-Inv-loop m1 m2 first₀ second₀ line₀ words₀ so-far₀ first second line words so-far = Signalled m1 m2 (state first second line words so-far)
+Inv-loop m1 m2 first₀ second₀ line₀ words₀ tail1 tail2 so-far₀ first second line words so-far =
+    Signalled m1 m2 (state first second line words so-far) × TailOf m1 tail1 × TailOf m2 tail2
 
 abbrev μ-loop : tie.MeasureT-loop
-μ-loop m1 m2 first₀ second₀ line₀ words₀ so-far₀ first second line words so-far = 128 - so-far .count
+μ-loop m1 m2 first₀ second₀ line₀ words₀ tail1 tail2 so-far₀ first second line words so-far = 128 - so-far .count
 
 loop-holds : tie.Need-loop-holds Inv-loop μ-loop
 loop-holds c = c .before .before .pre
 
 turn-requires : tie.Need-turn-requires Inv-loop μ-loop
-turn-requires c κs = c .before .before .before .before .loop .inv .staged
+turn-requires c κs = let inv = c .before .before .before .before .loop .inv in (inv .0 .staged, inv .1, inv .2)
 
 returns : tie.Need-returns Inv-loop μ-loop
 returns c =
@@ -24,7 +26,7 @@ returns c =
     let at = c .before .before .before .before .before .before .before in
     let l = t .last in
     settled-end _ _ (state (at .loop .first) (at .loop .second) (at .loop .line) (at .loop .words) (at .loop .so-far))
-    (state (l .1 .1 .0) (l .1 .1 .1 .0) (l .1 .1 .1 .1 .0) (l .1 .1 .1 .1 .1 .0) (t .result)) (t .ensures) (at .loop .inv) (c .if1 .taken)
+    (state (l .1 .1 .0) (l .1 .1 .1 .0) (l .1 .1 .1 .1 .0) (l .1 .1 .1 .1 .1 .0) (t .result)) (t .ensures) (at .loop .inv .0) (c .if1 .taken)
 
 loop-less : tie.Need-loop-less Inv-loop μ-loop
 loop-less c =
@@ -39,8 +41,8 @@ loop-again c =
     let t = c .before .before .turn in
     let at = c .before .before .before .before .before .before .before in
     let l = t .last in
-    signalled-on _ _ (state (at .loop .first) (at .loop .second) (at .loop .line) (at .loop .words) (at .loop .so-far))
-    (state (l .1 .1 .0) (l .1 .1 .1 .0) (l .1 .1 .1 .1 .0) (l .1 .1 .1 .1 .1 .0) (t .result)) (t .ensures) (at .loop .inv)
+    (signalled-on _ _ (state (at .loop .first) (at .loop .second) (at .loop .line) (at .loop .words) (at .loop .so-far))
+    (state (l .1 .1 .0) (l .1 .1 .1 .0) (l .1 .1 .1 .1 .0) (l .1 .1 .1 .1 .1 .0) (t .result)) (t .ensures) (at .loop .inv .0), at .loop .inv .1, at .loop .inv .2)
 
 pub by-nexts-spec : {M : Type 1} → statement M
 by-nexts-spec =

@@ -10,6 +10,12 @@ begin-requires c κs = search needs
 by-signals-requires : tie.Need-by-signals-requires
 by-signals-requires c κs = search needs
 
+shared-tail-requires : tie.Need-shared-tail-requires
+shared-tail-requires c κs = search needs
+
+shared-tail-requires-2 : tie.Need-shared-tail-requires-2
+shared-tail-requires-2 c κs = search needs
+
 by-nexts-requires : tie.Need-by-nexts-requires
 by-nexts-requires c κs = search needs
 
@@ -19,4 +25,4 @@ returns c = partitioned _ _ _ (c .by-nexts .ensures)
 pub refine-spec : {M : Type 1} → statement M
 refine-spec =
     tie.close
-    (tie.spec begin-requires by-signals-requires by-nexts-requires returns)
+    (tie.spec begin-requires by-signals-requires shared-tail-requires shared-tail-requires-2 by-nexts-requires returns)

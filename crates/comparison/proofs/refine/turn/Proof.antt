@@ -33,10 +33,10 @@ abbrev present : tie.At-loop Inv-loop μ-loop → State
 present c = state (c .loop .first) (c .loop .second) (c .loop .line) (c .loop .words) (c .loop .so-far)
 
 abbrev start : tie.At-loop Inv-loop μ-loop → tie.Start Inv-loop μ-loop
-start c = c .before .before .before .before .before .before .before .before .before .before
+start c = c .before .before .before .before .before .before .before .before
 
 fits : (c : tie.Start Inv-loop μ-loop) → c .args .stand .count ≤ 128
-fits c = blocks-fit (c .args .m1 .now) (c .args .m2 .now) 5 (entry c) (c .pre)
+fits c = blocks-fit (c .args .m1 .now) (c .args .m2 .now) 5 (entry c) (c .pre .0)
 
 few : (c : tie.At-loop Inv-loop μ-loop) → (c .loop .so-far .count ≤ 128) × (c .loop .so-far .lines + 5 ≤ 912)
 few c =
@@ -69,29 +69,23 @@ room w =
     let a = s .args in
     turning-room (a .m1 .now) (a .m2 .now) (entry s) (present at) (at .loop .mark1) (at .loop .mark2) (rowHas (at .loop .all)) (at .loop .c) (at .loop .inv .4) (c .before .before .before .before .before .before .before .if1 .taken) (c .splitter .result) (tells c) (w .before .before .before .if2 .left) (w .write-next .last .0) (w .write-next .ensures)
 
-shared-tail-requires : tie.Need-shared-tail-requires Inv-loop μ-loop
-shared-tail-requires c κs = c .before .before .pre .accepted₁
-
-shared-tail-requires-2 : tie.Need-shared-tail-requires-2 Inv-loop μ-loop
-shared-tail-requires-2 c κs = c .before .before .before .pre .accepted₂
-
 marks-requires : tie.Need-marks-requires Inv-loop μ-loop
-marks-requires c κs = omega (arith, fits (c .before .before .before .before .before))
+marks-requires c κs = omega (arith, fits (c .before .before .before))
 
 marks-requires-2 : tie.Need-marks-requires-2 Inv-loop μ-loop
-marks-requires-2 c κs = omega (arith, fits (c .before .before .before .before .before .before .before))
+marks-requires-2 c κs = omega (arith, fits (c .before .before .before .before .before))
 
 node-row-requires : tie.Need-node-row-requires Inv-loop μ-loop
 node-row-requires c κs = search needs
 
 loop-holds : tie.Need-loop-holds Inv-loop μ-loop
 loop-holds c =
-    let s = c .before .before .before .before .before .before .before .before .before in (
-      c .before .before .before .before .before .before .shared-tail .ensures,
-      c .before .before .before .before .before .shared-tail2 .ensures,
+    let s = c .before .before .before .before .before .before .before in (
+      s .pre .1,
+      s .pre .2,
       search needs,
       search needs,
-      turning-none (s .args .m1 .now) (s .args .m2 .now) (entry s) (s .pre) (c .before .before .before .marks .result) (c .before .marks2 .result) (rowHas (c .node-row .result))
+      turning-none (s .args .m1 .now) (s .args .m2 .now) (entry s) (s .pre .0) (c .before .before .before .marks .result) (c .before .marks2 .result) (rowHas (c .node-row .result))
           (c .before .before .before .marks .ensures) (c .before .marks2 .ensures) (c .node-row .ensures),
     )
 
@@ -198,8 +192,6 @@ turn-spec =
     (tie.spec
     Inv-loop
     μ-loop
-    shared-tail-requires
-    shared-tail-requires-2
     marks-requires
     marks-requires-2
     node-row-requires
