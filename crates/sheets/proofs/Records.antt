@@ -1,8 +1,8 @@
--- A chain read record by record: what a step tells of its record, and of the chain that goes on there.
+-- A record of a chain as a step, and the chain from a record on.
 use mathlib.Core.Path.{_≡_, refl}
-use Prim.Native.Nat.{ℕ, zero, suc, _+_, _-_, _*_, _≤_, _<_}
+use Prim.Native.Nat.{ℕ, zero, suc, _+_, _-_, _*_}
 use native.Mathlib.Omega.{arith}
-use mathlib.Core.List.{List, [], _∷_}
+use mathlib.Core.List.{List}
 use Rattle.sheets.specs.Words.{word, chain}
 use Rattle.sheets.specs.Records.{recordWord, stepAt}
 use Rattle.sheets.specs.declared.words.Step.the-variants.{Record, End}

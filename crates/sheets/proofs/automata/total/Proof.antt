@@ -1,5 +1,5 @@
 -- `total` meets its contract. The invariant: under each valuation passed exactly one transition is taken. The measure is the number of those left.
-use mathlib.Core.Path.{_≡_, sym, _∙_}
+use mathlib.Core.Path.{sym, _∙_}
 use Prim.Native.Nat.{_-_}
 use native.Mathlib.Omega.{arith}
 use borrow.Author.Tests.{not-true, not-false}
