@@ -1,4 +1,4 @@
--- Which positions an automaton may go between at some node, as sets: position p is member p + 1.
+-- Sets as rows of a table: one member more, and which positions an automaton may go between at some node, where position p is member p + 1.
 use mathlib.Core.Path.{_≡_}
 use Prim.Native.Nat.{ℕ, _+_, _-_, _*_, _≤_, _<_}
 use mathlib.Core.List.{List}

@@ -1,5 +1,4 @@
 -- `predecessors` meets its contract. The invariant: the nodes 1 to s are in the rows of their successors. The measure is the nodes left.
-use borrow.Author.Needs.{needs}
 use mathlib.Core.Path.{_≡_, refl, _∙_}
 use Prim.Native.Nat.{ℕ, _-_, _≤_}
 use native.Mathlib.Omega.{arith}
