@@ -2,5 +2,6 @@
 pub mod NodeLoops
 pub mod ChainRows
 pub mod EdgesBack
+pub mod EdgesAdded
 pub mod TargetRows
 pub mod NotedMarks

@@ -1,4 +1,4 @@
--- Which positions an automaton may go between at some node, as sets: position p is member p + 1.
+-- Sets as rows of a table: one member more, and which positions an automaton may go between at some node, where position p is member p + 1.
 use mathlib.Core.Path.{_≡_}
 use Prim.Native.Nat.{ℕ, _+_, _-_, _*_, _≤_, _<_}
 use mathlib.Core.List.{List}
@@ -12,6 +12,11 @@ use Rattle.truth.specs.Rows.{rowsHas}
 pub record Joined (k s : ℕ) (before after : List ℕ) : Type 0 where
   pub size : length after ≡ length before
   pub rows : (q i : ℕ) → rowsHas after q i ≡ (rowsHas before q i || (eqb q k && (within 1 128 s && eqb i s)))
+
+-- `after` is `before` with member s more in row u - 1 for each u of the set
+pub record AddedBefore (set : ℕ → Bool) (s : ℕ) (before after : List ℕ) : Type 0 where
+  pub size : length after ≡ length before
+  pub rows : (u i : ℕ) → 1 ≤ u → rowsHas after (u - 1) i ≡ (rowsHas before (u - 1) i || (set u && (within 1 128 s && eqb i s)))
 
 -- Row k of `sets` has only positions below t, and each position q for which row `cell k q` of `allow` has a node.
 pub record Linked (cell : ℕ → ℕ → ℕ) (allow sets : List ℕ) (t : ℕ) : Type 0 where

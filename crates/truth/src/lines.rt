@@ -47,11 +47,13 @@ fn solve_with(
     ensures { λ a. ⌜ SolvedLine (now (m .entry)) (now (r .entry)) (now (next .entry)) (now (rows .entry)) j x exchanged (now (allow .exit)) (a .lasting) (a .reached) (now (times .exit)) ⌝ }
 {
     let all = structure::node_row(machine::nodes(m));
-    let t = automata::chain_length(r, x);
+    let chain = automata::states_of(r, x);
+    let t = chain.count;
+    let states = chain.numbers;
     let mut into = [0u64; 32];
     let mut onto = [0u64; 32];
-    product::allow_table(r, rows, all, j, x, t, allow, &mut into, &mut onto);
-    let goods = product::good_table(r, all, x, t, exchanged);
+    product::allow_table(r, rows, all, j, x, t, states, allow, &mut into, &mut onto);
+    let goods = product::good_table(r, all, t, states, exchanged);
     let lasting = trim(allow, next, back, &into, &onto, t as usize, goods);
     let reached = grow(allow, back, &into, t as usize, lasting, times);
     Sets {

@@ -12,7 +12,9 @@ ghost use Rattle.sheets.specs.Gathered.{records, Remaining, Until};
 ghost use Rattle.truth.specs.Rows.{rowHas, rowsHas, leadsInto, marksInto};
 ghost use Rattle.truth.specs.Targets.{TargetsTaken, Stopped, TailOf, chainLeads};
 ghost use Rattle.truth.specs.Pairs.{Before};
+ghost use Rattle.truth.specs.Links.{AddedBefore};
 use crate::rows::Row;
+use crate::tables::add;
 use crate::tables::line_row;
 use crate::tables::load;
 use crate::tables::store;
@@ -271,34 +273,33 @@ pub fn successors(m: &[u16]) -> [u64; 512]
     out
 }
 
-// The nodes 1 to n that the table has node t as a successor of.
-pub fn predecessor_row(next: &[u64; 512], n: u16, t: u16) -> Row
-    requires { ⌜ n ≤ 128 ⌝ }
-    ensures { λ r. ⌜ ((s : ℕ) → rowHas r s ≡ (leb s n && (within 1 128 s && rowsHas (now (next .entry)) (s - 1) t))) ⌝ }
+// Node s more in the row of each node of the set.
+fn add_before(set: Row, s: u16, out: &mut [u64; 512])
+    requires { ⌜ length (now out) ≡ 512 ⌝ }
+    ensures { λ r. ⌜ AddedBefore (rowHas set) s (now (out .entry)) (now (out .exit)) ⌝ }
 {
-    let mut out = Row::empty();
-    let mut s: u16 = 0;
-    while s < n {
-        let row = load(next, s as usize);
-        s += 1;
-        if row.has(t) {
-            out = out.with(s);
+    let mut left = set;
+    loop {
+        let u = left.first();
+        if u == 0 {
+            return;
         }
+        left = left.without(u);
+        add(out, u as usize, s);
     }
-    out
 }
 
-// The predecessors of each node t, at row t - 1.
+// The predecessors of each node t, at row t - 1: each node goes to the rows of its successors.
 pub fn predecessors(next: &[u64; 512], n: u16) -> [u64; 512]
     requires { ⌜ n ≤ 128 ⌝ }
     ensures { λ r. ⌜ ((s t : ℕ) → 1 ≤ t → t ≤ n → rowsHas r (t - 1) s ≡ (leb s n && (within 1 128 s && rowsHas (now (next .entry)) (s - 1) t))) ⌝ }
 {
     let mut out = [0u64; 512];
-    let mut t: u16 = 0;
-    while t < n {
-        let row = predecessor_row(next, n, t + 1);
-        store(&mut out, t as usize, row);
-        t += 1;
+    let mut s: u16 = 0;
+    while s < n {
+        let row = load(next, s as usize);
+        s += 1;
+        add_before(row, s, &mut out);
     }
     out
 }

@@ -12,7 +12,7 @@ use Rattle.sheets.proofs.Positions.{same-tests}
 use Rattle.truth.specs.Rows.{rowsHas}
 use Rattle.truth.specs.Pairs.{timeOf, Timed}
 use Rattle.truth.specs.Growing.{Spread, enters, below, Turn}
-use Rattle.truth.proofs.rows.RowWalks.{Less}
+use Rattle.truth.proofs.rows.RowWalks.{Less, and-not}
 
 -- ---- additions after each other
 or-fresh : (n y e f : Bool) → ((n || (e && not y)) || (f && not (y || e))) ≡ (n || ((e || f) && not y))
@@ -71,10 +71,6 @@ spread-same {time = time} {ys} {new} {times} {ys′} {new′} {times′} same =
 -- ---- the pairs of the members of `from` that are not left
 abbrev pub among : (ℕ → Bool) → (ℕ → Bool) → (ℕ → ℕ → Bool) → ℕ → ℕ → Bool
 among from left e p s = (from (p + 1) && not (left (p + 1))) && e p s
-
-and-not : (a b : Bool) → ((a && not a) && b) ≡ false
-and-not true b = refl
-and-not false b = refl
 
 module _ (from : ℕ → Bool) (e : ℕ → ℕ → Bool) where
   pub among-none : (p s : ℕ) → among from from e p s ≡ false

@@ -9,7 +9,7 @@ use lib.Dec.{T}
 use Rattle.sheets.specs.Words.{bit}
 use Rattle.sheets.proofs.Search.{le-or-gt}
 use Rattle.sheets.proofs.BitLaws.{bit-none, bit-above}
-use Rattle.truth.specs.Rows.{held, rowsHas}
+use Rattle.truth.specs.Rows.{held}
 use Rattle.truth.specs.Pairs.{Before}
 use Rattle.truth.specs.Product.{Drawn}
 use Rattle.truth.proofs.rows.RowLaws.{held-in, held-low, held-high}

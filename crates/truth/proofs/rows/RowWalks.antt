@@ -1,6 +1,6 @@
 -- A loop over the nodes of a row, which takes one out of what is left each turn: what is left becomes less; the nodes before the row's,
 -- gathered; the nodes sorted by a test; what holds of each member that was visited.
-use mathlib.Core.Path.{_≡_}
+use mathlib.Core.Path.{_≡_, refl}
 use mathlib.Core.Logic.{_⊎_, inl, inr, _↔_, ⊎-elim, ⊎-map, by-cases}
 use Prim.Native.Nat.{ℕ, _+_, _-_, _*_, _≤_, _<_}
 use native.Mathlib.Decide.{ℕ-discrete}
@@ -46,6 +46,11 @@ module _ (left left′ : ℕ → Bool) (u : ℕ) (less : Less left u left′) wh
     where
       out : T (not (left′ u))
       out = not-T (left′ u) (λ x. T-not (eqb u u) (and-right (left u) (not (eqb u u)) (rw (less u) at x)) (eqb-refl u))
+
+-- at first none is out
+pub and-not : (a b : Bool) → ((a && not a) && b) ≡ false
+and-not true b = refl
+and-not false b = refl
 
 -- ---- the nodes before the row's: `out` has those before a node that is not left
 pub record Gathered (back : List ℕ) (from left out : ℕ → Bool) : Type 0 where

@@ -6,11 +6,11 @@ use Prim.Native.Nat.{ℕ, _+_, _-_, _*_, _≤_, _<_}
 use native.Mathlib.Omega.{arith}
 use native.Mathlib.Decide.{ℕ-discrete}
 use mathlib.Core.List.{List}
-use mathlib.Core.Bool.{Bool, _&&_, _||_}
+use mathlib.Core.Bool.{_&&_, _||_}
 use lib.ListN.{length, set}
 use lib.Dec.{T, eqb, eqb→eq, eqb-refl}
 use Rattle.sheets.specs.Words.{within}
-use Rattle.sheets.proofs.Tests.{and-left, and-right, and-both, or-left, or-right, or-cases}
+use Rattle.sheets.proofs.Tests.{and-right, and-both, or-left, or-right, or-cases}
 use Rattle.sheets.proofs.Search.{within-in}
 use Rattle.truth.specs.Rows.{held, rowsHas}
 use Rattle.truth.specs.Pairs.{NoRow}

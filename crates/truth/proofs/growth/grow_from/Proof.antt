@@ -1,5 +1,5 @@
 -- `grow_from` meets its contract. The invariant: the pairs of the positions that are no longer left are added. The measure is how many are left.
-use mathlib.Core.Path.{_≡_, _∙_}
+use mathlib.Core.Path.{_∙_}
 use mathlib.Core.Logic.{_↔_}
 use Prim.Native.Nat.{ℕ, _+_, _-_, _*_, _≤_}
 use native.Mathlib.Omega.{arith}

@@ -12,25 +12,22 @@ use Rattle.truth.proofs.product.allow_table.Statement.{statement}
 use Rattle.truth.proofs.product.allow_table.Tie as tie
 
 abbrev Inv-loop : tie.InvT-loop
-Inv-loop r rows j x t out₀ into₀ onto₀ v states table p₀ out into onto p = (p ≤ t) × Built r states table v t p out × Into out into t × Onto out onto t
+Inv-loop r rows j x t out₀ into₀ onto₀ states v table p₀ out into onto p = (p ≤ t) × Built r states table v t p out × Into out into t × Onto out onto t
 
 abbrev μ-loop : tie.MeasureT-loop
-μ-loop r rows j x t out₀ into₀ onto₀ v states table p₀ out into onto p = t - p
+μ-loop r rows j x t out₀ into₀ onto₀ states v table p₀ out into onto p = t - p
 
 automaton-word-requires : tie.Need-automaton-word-requires Inv-loop μ-loop
 automaton-word-requires c κs = omega arith
 
-chain-states-requires : tie.Need-chain-states-requires Inv-loop μ-loop
-chain-states-requires c κs = omega arith
-
 valuation-table-requires : tie.Need-valuation-table-requires Inv-loop μ-loop
 unfolding variables
 valuation-table-requires c κs =
-    let pre = c .before .before .before .before .pre in
-    rw (c .before .automaton-word .ensures) (pre .1, pre .3)
+    let pre = c .before .before .before .pre in
+    rw (c .automaton-word .ensures) (pre .1, pre .3)
 
 loop-holds : tie.Need-loop-holds Inv-loop μ-loop
-loop-holds c = (omega arith, built-none _ _ _ _ _ _ (c .before .before .before .before .before .pre .4) (c .before .before .before .before .before .pre .5), c .before .before .before .before .before .pre .6, c .before .before .before .before .before .pre .7)
+loop-holds c = (omega arith, built-none _ _ _ _ _ _ (c .before .before .before .before .pre .4) (c .before .before .before .before .pre .5), c .before .before .before .before .pre .6, c .before .before .before .before .pre .7)
 
 cast-masks-from : tie.Need-cast-masks-from Inv-loop μ-loop
 cast-masks-from c = omega arith
@@ -47,7 +44,7 @@ masks-from-requires c κs = omega arith
 set-masks-requires : tie.Need-set-masks-requires Inv-loop μ-loop
 set-masks-requires c κs =
     let l = c .before .before .before .before .before .before .loop in
-    (omega arith, c .before .before .before .before .before .before .before .before .before .before .before .before .pre .0, l .inv .1 .size, λ k h. l .inv .1 .rest (16 * l .p + k) (omega arith), l .inv .2, l .inv .3)
+    (omega arith, c .before .before .before .before .before .before .before .before .before .before .before .pre .0, l .inv .1 .size, λ k h. l .inv .1 .rest (16 * l .p + k) (omega arith), l .inv .2, l .inv .3)
 
 add-p : tie.Need-add-p Inv-loop μ-loop
 add-p c = omega arith
@@ -57,10 +54,10 @@ loop-less c = omega arith
 
 loop-again : tie.Need-loop-again Inv-loop μ-loop
 loop-again c =
-    let a = c .before .before .before .before .before .before .before .before .before .before .before .before .before .args in
+    let a = c .before .before .before .before .before .before .before .before .before .before .before .before .args in
     let at = c .before .before .before .before .before .before .before .loop in (
       omega arith,
-      built-more (a .r .now) (c .before .before .before .before .before .before .before .before .before .chain-states .result) (c .before .before .before .before .before .before .before .before .valuation-table .result) _ (a .t) (at .p) _ (at .out) _ (omega arith) (c .before .before .before .before .before .before .before .before .valuation-table .ensures .0) (at .inv .1)
+      built-more (a .r .now) _ (c .before .before .before .before .before .before .before .before .valuation-table .result) _ (a .t) (at .p) _ (at .out) _ (omega arith) (c .before .before .before .before .before .before .before .before .valuation-table .ensures .0) (at .inv .1)
           (c .before .before .before .before .before .masks-from .ensures) (c .set-masks .ensures .0),
       c .set-masks .ensures .1 .0,
       c .set-masks .ensures .1 .1,
@@ -69,11 +66,11 @@ loop-again c =
 returns : tie.Need-returns Inv-loop μ-loop
 unfolding variables
 returns c =
-    let a = c .before .before .before .before .before .before .before .args in
+    let a = c .before .before .before .before .before .before .args in
     let e : c .before .loop .p ≡ a .t = omega arith in
     let l = c .before .loop in (
-      built-allowed (a .r .now) (a .rows .now) (c .before .before .before .chain-states .result) (c .before .before .valuation-table .result) (rowHas (a .all)) (a .j) (a .x) _ (a .t) _
-          (c .before .before .before .before .automaton-word .ensures) (c .before .before .before .chain-states .ensures) (c .before .before .valuation-table .ensures .1) (rw e at (l .inv .1)),
+      built-allowed (a .r .now) (a .rows .now) _ (c .before .before .valuation-table .result) (rowHas (a .all)) (a .j) (a .x) _ (a .t) _
+          (c .before .before .before .automaton-word .ensures) (c .before .before .before .before .before .before .pre .2) (c .before .before .valuation-table .ensures .1) (rw e at (l .inv .1)),
       (l .inv .2, l .inv .3),
     )
 
@@ -84,7 +81,6 @@ allow-table-spec =
     Inv-loop
     μ-loop
     automaton-word-requires
-    chain-states-requires
     valuation-table-requires
     loop-holds
     cast-masks-from

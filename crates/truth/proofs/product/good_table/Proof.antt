@@ -18,13 +18,10 @@ abbrev Has : List ℕ → Row → Bool → List ℕ → ℕ → ℕ → Bool →
 Has r all exchanged states p s b = b ≡ (rowHas all s && good exchanged r (getD states p 0))
 
 abbrev Inv-loop : tie.InvT-loop
-Inv-loop r all x t exchanged states out₀ p₀ out p = (p ≤ t) × Filled 32 (Has r all exchanged states) p out
+Inv-loop r all t exchanged states out₀ p₀ out p = (p ≤ t) × Filled 32 (Has r all exchanged states) p out
 
 abbrev μ-loop : tie.MeasureT-loop
-μ-loop r all x t exchanged states out₀ p₀ out p = t - p
-
-chain-states-requires : tie.Need-chain-states-requires Inv-loop μ-loop
-chain-states-requires c κs = omega arith
+μ-loop r all t exchanged states out₀ p₀ out p = t - p
 
 loop-holds : tie.Need-loop-holds Inv-loop μ-loop
 loop-holds c = (omega arith, filled-none _ _ (search needs))
@@ -55,16 +52,14 @@ loop-less c = omega arith
 
 loop-again : tie.Need-loop-again Inv-loop μ-loop
 loop-again c =
-    let a = c .before .before .before .before .before .before .before .args in
     let at = c .before .before .before .before .loop in
-    let has = Has (a .r .now) (a .all) (a .exchanged) (c .before .before .before .before .before .chain-states .result) in
-    (omega arith, filled-more has (at .out) _ (at .p) _ _ (at .inv .1) (omega arith) (c .store .ensures) (c .before .before .good-row .ensures))
+    (omega arith, filled-more _ (at .out) _ (at .p) _ _ (at .inv .1) (omega arith) (c .store .ensures) (c .before .before .good-row .ensures))
 
 returns : tie.Need-returns Inv-loop μ-loop
-returns c =
-    let t = c .before .before .before .before .args .t in
-    let e : c .before .loop .p ≡ t = omega arith in
-    record { row = λ p s l. rw (← (c .before .before .chain-states .ensures p l)) (c .before .loop .inv .1 .rows p s (omega arith)) }
+returns c x is =
+    let at = c .before .loop in
+    let e : at .p ≡ c .before .before .before .args .t = omega arith in
+    record { row = λ p s l. rw (← (is p l)) (at .inv .1 .rows p s (omega arith)) }
 
 pub good-table-spec : {M : Type 1} → statement M
 good-table-spec =
@@ -72,7 +67,6 @@ good-table-spec =
     (tie.spec
     Inv-loop
     μ-loop
-    chain-states-requires
     loop-holds
     cast-good-row
     mul-good-row

@@ -1,5 +1,4 @@
 -- `steps_into` meets its contract. The invariant: no position that is no longer left is met. The measure is how many are left.
-use mathlib.Core.Path.{_≡_}
 use Prim.Native.Nat.{_-_, _≤_}
 use native.Mathlib.Omega.{arith}
 use Rattle.sheets.proofs.Counting.{number}
