@@ -147,16 +147,21 @@ module _ (page : List ℕ) (c d : Cursor) (byte : ℕ) (room : c .at < 4096) (at
       let e = eq-eqb byte 10 ends in
       follows-more λ x. laid-more x (rw (e, col) refl) (rw (e, lines) (sym (add-one (c .lines)))) (omega arith) (omega arith)
 
--- a page of which the first bytes are put
+-- no byte of a page
+pub narrow-none : (page : List ℕ) → Narrow page 0
+unfolding column ended
+narrow-none page = record {
+  inside = omega arith;
+  narrow = λ i h. let e : i ≡ 0 = omega arith in rw e (omega arith);
+  few = omega arith;
+}
+
+-- the cursor of an empty page
 pub laid-none : (page : List ℕ) (c : Cursor) → length page ≡ 4096 → c .at ≡ 0 → c .column ≡ 0 → c .lines ≡ 0 → Laid page c
 unfolding column ended
 laid-none page c size at col lines = record {
   size = size;
-  above = record {
-    inside = omega arith;
-    narrow = λ i h. let e : i ≡ 0 = omega arith in rw e (omega arith);
-    few = rw at (omega arith);
-  };
+  above = rw at (narrow-none page);
   column = rw (at, col) refl;
   ended = rw (at, lines) refl;
 }

@@ -56,6 +56,7 @@ fn numbers(page: &mut [u8; 4096], c: Cursor, set: u16, pair: bool) -> Cursor
     c
 }
 
+// "signals 1, 2 and 3 are on".
 fn several(page: &mut [u8; 4096], c: Cursor, set: u16, on: bool) -> Cursor
     ensures { λ r. ⌜ Follows (now (page .entry)) c (now (page .exit)) r ⌝ }
 {
@@ -67,6 +68,7 @@ fn several(page: &mut [u8; 4096], c: Cursor, set: u16, on: bool) -> Cursor
     page::put(page, said, b" are off")
 }
 
+// "neither signal 1 nor signal 2 is on".
 fn neither(page: &mut [u8; 4096], c: Cursor, set: u16) -> Cursor
     ensures { λ r. ⌜ Follows (now (page .entry)) c (now (page .exit)) r ⌝ }
 {
@@ -75,6 +77,7 @@ fn neither(page: &mut [u8; 4096], c: Cursor, set: u16) -> Cursor
     page::put(page, said, b" is on")
 }
 
+// "signal 1 is on".
 fn single(page: &mut [u8; 4096], c: Cursor, set: u16, on: bool) -> Cursor
     ensures { λ r. ⌜ Follows (now (page .entry)) c (now (page .exit)) r ⌝ }
 {
@@ -137,6 +140,7 @@ fn goes_on(c: Cursor, rest: u16) -> bool {
     c.column <= 66
 }
 
+// Ends the line and begins the next one at a level.
 fn new_line(page: &mut [u8; 4096], c: Cursor, level: u16) -> Cursor
     ensures { λ r. ⌜ Follows (now (page .entry)) c (now (page .exit)) r ⌝ }
 {
@@ -189,7 +193,8 @@ fn on_and_off(page: &mut [u8; 4096], c: Cursor, on: u16, off: u16, level: u16, f
     signals(page, below, off, false)
 }
 
-fn lone_signals(
+// The same, where there may be none.
+fn any_signals(
     page: &mut [u8; 4096],
     c: Cursor,
     on: u16,
@@ -218,6 +223,7 @@ struct Put {
     flow: bool,
 }
 
+// A part that is put as a whole, up to the cursor.
 fn closed(c: Cursor) -> Put
     ensures { λ r. ⌜ r .cursor ≡ c ⌝ }
 {
@@ -250,7 +256,7 @@ fn opened(
     let inner = parts::gather(rule, &mut marks, line, mark);
     let headed = page::put(page, c, words);
     let begun = page::put(page, headed, b": ");
-    let tried = lone_signals(page, begun, inner.on, inner.off, at.level, true);
+    let tried = any_signals(page, begun, inner.on, inner.off, at.level, true);
     if goes_on(tried, inner.rest) {
         return Put {
             cursor: begun,
@@ -284,6 +290,7 @@ fn has_lines(ended: u16, owed: u16, rest: u16) -> bool {
     ended as usize + owed as usize + rest as usize + 2 <= 40
 }
 
+// "line 7".
 fn put_line(page: &mut [u8; 4096], c: Cursor, l: u16) -> Cursor
     ensures { λ r. ⌜ Follows (now (page .entry)) c (now (page .exit)) r ⌝ }
 {
@@ -391,7 +398,7 @@ fn put_parts(rule: &[u16], page: &mut [u8; 4096], c: Cursor, at: Place, k: u16, 
 {
     let mut marks = [0u8; 1024];
     let inner = parts::gather(rule, &mut marks, k, mark);
-    let mut c = lone_signals(page, c, inner.on, inner.off, at.level, at.flow);
+    let mut c = any_signals(page, c, inner.on, inner.off, at.level, at.flow);
     let mut there = first_place(at, inner);
     let mut l: u16 = 0;
     while l < k {
@@ -416,7 +423,8 @@ fn put_parts(rule: &[u16], page: &mut [u8; 4096], c: Cursor, at: Place, k: u16, 
     c
 }
 
-// Puts the sentence of the rule, its last line, at the head of the page, and answers how long it is.
+// Puts the sentence of the rule, its last line, at the head of the page, and answers how long it is. A sentence that found no room is
+// left out: its length is 0.
 pub fn sentence(rule: &[u16], page: &mut [u8; 4096]) -> usize
     requires { ⌜ length (now page) ≡ 4096 ⌝ }
     ensures { λ n. ⌜ (length (now (page .exit)) ≡ 4096) × Narrow (now (page .exit)) n ⌝ }
@@ -431,5 +439,8 @@ pub fn sentence(rule: &[u16], page: &mut [u8; 4096]) -> usize
     let begun = page::indent(page, page::top(), 1);
     let said = put_parts(rule, page, begun, whole, rules::lines(rule), parts::HOLDS);
     let ended = page::end_line(page, said);
+    if ended.over {
+        return 0;
+    }
     ended.at
 }

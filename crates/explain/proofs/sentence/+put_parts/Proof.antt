@@ -12,7 +12,7 @@ use Rattle.explain.proofs.sentence.+put_parts.Lts-put_parts as put-part
 use Rattle.explain.proofs.parts.gather.Reads as gather-reads
 use Rattle.explain.proofs.parts.mark_of.Reads as mark-of-reads
 use Rattle.explain.proofs.sentence.first_place.Reads as first-place-reads
-use Rattle.explain.proofs.sentence.lone_signals.Reads as lone-signals-reads
+use Rattle.explain.proofs.sentence.any_signals.Reads as any-signals-reads
 use Rattle.explain.proofs.sentence.part.Reads as part-reads
 use Rattle.explain.proofs.sentence.place_after.Reads as place-after-reads
 use Rattle.explain.proofs.sentence.+put_parts.{statement}
@@ -32,8 +32,8 @@ abbrev claims : ℕ → put-parts-lts.Claims
 claims t = (
   gather-reads.Asked,
   gather-reads.Learnt,
-  lone-signals-reads.Asked,
-  lone-signals-reads.Learnt,
+  any-signals-reads.Asked,
+  any-signals-reads.Learnt,
   first-place-reads.Asked,
   first-place-reads.Learnt,
   mark-of-reads.Asked,
@@ -55,8 +55,8 @@ put-parts-μ-loop rule page₀ at k mark marks c₀ there₀ l₀ page c there l
 put-parts-gather-requires : (t : ℕ) → put-parts-lts.Need-gather-requires (claims t) (put-parts-at t) put-parts.Post put-parts-Inv-loop put-parts-μ-loop
 put-parts-gather-requires t c κs = search needs
 
-put-parts-lone-signals-requires : (t : ℕ) → put-parts-lts.Need-lone-signals-requires (claims t) (put-parts-at t) put-parts.Post put-parts-Inv-loop put-parts-μ-loop
-put-parts-lone-signals-requires t c κs = search needs
+put-parts-any-signals-requires : (t : ℕ) → put-parts-lts.Need-any-signals-requires (claims t) (put-parts-at t) put-parts.Post put-parts-Inv-loop put-parts-μ-loop
+put-parts-any-signals-requires t c κs = search needs
 
 put-parts-first-place-requires : (t : ℕ) → put-parts-lts.Need-first-place-requires (claims t) (put-parts-at t) put-parts.Post put-parts-Inv-loop put-parts-μ-loop
 put-parts-first-place-requires t c κs = search needs
@@ -103,7 +103,7 @@ put-parts-loop-again-3 : (t : ℕ) → put-parts-lts.Need-loop-again-3 (claims t
 put-parts-loop-again-3 t c = (search needs, follows-then (c .before .before .before .before .before .before .before .before .loop .inv .1) (c .before .before .before .part .ensures))
 
 put-parts-returns : (t : ℕ) → put-parts-lts.Need-returns (claims t) (put-parts-at t) put-parts.Post put-parts-Inv-loop put-parts-μ-loop
-put-parts-returns t c = follows-then (c .before .before .before .lone-signals .ensures) (c .before .loop .inv .1)
+put-parts-returns t c = follows-then (c .before .before .before .any-signals .ensures) (c .before .loop .inv .1)
 
 pub +put-parts-spec : {M : Type 1} → statement M
 +put-parts-spec = close μ-put-parts λ t. put-parts-lts.spec (claims t)
@@ -112,7 +112,7 @@ pub +put-parts-spec : {M : Type 1} → statement M
     put-parts-Inv-loop
     put-parts-μ-loop
     (put-parts-gather-requires t)
-    (put-parts-lone-signals-requires t)
+    (put-parts-any-signals-requires t)
     (put-parts-first-place-requires t)
     (put-parts-loop-holds t)
     (put-parts-add-l t)

@@ -22,14 +22,14 @@ slice-aggregate-put c = search needs
 put-requires-2 : tie.Need-put-requires-2
 put-requires-2 c κs = search needs
 
-lone-signals-requires : tie.Need-lone-signals-requires
-lone-signals-requires c κs = search needs
+any-signals-requires : tie.Need-any-signals-requires
+any-signals-requires c κs = search needs
 
 goes-on-requires : tie.Need-goes-on-requires
 goes-on-requires c κs = search needs
 
 returns-2 : tie.Need-returns-2
-returns-2 c = follows-then (c .before .before .before .before .before .before .before .put .ensures) (follows-then (c .before .before .before .before .put2 .ensures) (follows-back (c .before .before .lone-signals .ensures)))
+returns-2 c = follows-then (c .before .before .before .before .before .before .before .put .ensures) (follows-then (c .before .before .before .before .put2 .ensures) (follows-back (c .before .before .any-signals .ensures)))
 
 has-lines-requires : tie.Need-has-lines-requires
 has-lines-requires c κs = search needs
@@ -38,13 +38,13 @@ closed-requires-2 : tie.Need-closed-requires-2
 closed-requires-2 c κs = search needs
 
 returns-3 : tie.Need-returns-3
-returns-3 c = rw (c .closed2 .ensures) (follows-back (follows-then (c .before .before .before .before .before .before .before .before .before .before .put .ensures) (follows-then (c .before .before .before .before .before .before .before .put2 .ensures) (c .before .before .before .before .before .lone-signals .ensures))))
+returns-3 c = rw (c .closed2 .ensures) (follows-back (follows-then (c .before .before .before .before .before .before .before .before .before .before .put .ensures) (follows-then (c .before .before .before .before .before .before .before .put2 .ensures) (c .before .before .before .before .before .any-signals .ensures))))
 
 closed-requires-3 : tie.Need-closed-requires-3
 closed-requires-3 c κs = search needs
 
 returns-4 : tie.Need-returns-4
-returns-4 c = rw (c .closed3 .ensures) (follows-back (follows-then (c .before .before .before .before .before .before .before .before .before .before .before .before .put .ensures) (follows-then (c .before .before .before .before .before .before .before .before .before .put2 .ensures) (c .before .before .before .before .before .before .before .lone-signals .ensures))))
+returns-4 c = rw (c .closed3 .ensures) (follows-back (follows-then (c .before .before .before .before .before .before .before .before .before .before .before .before .put .ensures) (follows-then (c .before .before .before .before .before .before .before .before .before .put2 .ensures) (c .before .before .before .before .before .before .before .any-signals .ensures))))
 
 slice-aggregate-put-2 : tie.Need-slice-aggregate-put-2
 slice-aggregate-put-2 c = search needs
@@ -62,7 +62,7 @@ add-t31 : tie.Need-add-t31
 add-t31 c = search needs
 
 returns-5 : tie.Need-returns-5
-returns-5 c = follows-then (c .before .before .before .before .before .before .before .before .before .before .before .before .before .before .before .before .before .before .put .ensures) (follows-then (follows-back (follows-then (c .before .before .before .before .before .before .before .before .before .before .before .before .before .before .before .put2 .ensures) (c .before .before .before .before .before .before .before .before .before .before .before .before .before .lone-signals .ensures))) (follows-then (c .before .before .before .before .put3 .ensures) (c .before .new-line .ensures)))
+returns-5 c = follows-then (c .before .before .before .before .before .before .before .before .before .before .before .before .before .before .before .before .before .before .put .ensures) (follows-then (follows-back (follows-then (c .before .before .before .before .before .before .before .before .before .before .before .before .before .before .before .put2 .ensures) (c .before .before .before .before .before .before .before .before .before .before .before .before .before .any-signals .ensures))) (follows-then (c .before .before .before .before .put3 .ensures) (c .before .new-line .ensures)))
 
 pub opened-spec : {M : Type 1} → statement M
 opened-spec =
@@ -74,7 +74,7 @@ opened-spec =
     put-requires
     slice-aggregate-put
     put-requires-2
-    lone-signals-requires
+    any-signals-requires
     goes-on-requires
     returns-2
     has-lines-requires

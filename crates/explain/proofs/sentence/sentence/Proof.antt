@@ -1,5 +1,5 @@
 -- `sentence` meets its contract: all is put from the head of the page on.
-use Rattle.explain.proofs.Pages.{follows-then, laid-none}
+use Rattle.explain.proofs.Pages.{follows-then, laid-none, narrow-none}
 use borrow.Author.Needs.{needs}
 use Rattle.explain.proofs.sentence.sentence.Statement.{statement}
 use Rattle.explain.proofs.sentence.sentence.Tie as tie
@@ -21,8 +21,15 @@ end-line-requires c κs = search needs
 
 returns : tie.Need-returns
 returns c =
-    let top = c .before .before .before .before .before .before .top .ensures in
-    let all = follows-then (c .before .before .before .before .before .indent .ensures) (follows-then (c .before .before .put-parts .ensures) (c .end-line .ensures)) in
+    let top = c .before .before .before .before .before .before .before .top .ensures in
+    let all = follows-then (c .before .before .before .before .before .before .indent .ensures) (follows-then (c .before .before .before .put-parts .ensures) (c .before .end-line .ensures)) in
+    let laid = all .laid (laid-none _ _ (search needs) (top .0) (top .1) (top .2)) in
+    (laid .size, narrow-none _)
+
+returns-2 : tie.Need-returns-2
+returns-2 c =
+    let top = c .before .before .before .before .before .before .before .top .ensures in
+    let all = follows-then (c .before .before .before .before .before .before .indent .ensures) (follows-then (c .before .before .before .put-parts .ensures) (c .before .end-line .ensures)) in
     let laid = all .laid (laid-none _ _ (search needs) (top .0) (top .1) (top .2)) in
     (laid .size, laid .above)
 
@@ -35,4 +42,5 @@ sentence-spec =
     lines-requires
     put-parts-requires
     end-line-requires
-    returns)
+    returns
+    returns-2)
