@@ -131,3 +131,28 @@ fn worked_machines() {
         }
     }
 }
+
+/// As the README shows them.
+#[test]
+fn sentences_of_worked_machines() {
+    let said = |first: Vec<u16>, second: Vec<u16>| {
+        let printed = explain(&bytes(&[first, second].concat()));
+        let sentence = printed.split_once("Line by line:\n").expect("a rule").0;
+        sentence.split_once('\n').expect("a heading").1.to_string()
+    };
+    assert_eq!(
+        said(worked::m1(), worked::m3()),
+        "  not: signal 1 is on, and some next node has: signal 1 is on\n"
+    );
+    assert_eq!(
+        said(worked::m5(), worked::m6()),
+        "  not:
+    neither signal 1 nor signal 2 is on,
+    and no next node has: signal 1 is on,
+    and no next node has: signal 2 is on, and signal 1 is off,
+    and some next node has:
+      neither signal 1 nor signal 2 is on,
+      and some next node has: signal 1 is on,
+      and some next node has: signal 2 is on, and signal 1 is off\n"
+    );
+}

@@ -125,8 +125,8 @@ fn fits(c: Cursor) -> bool {
     c.column < 100
 }
 
-// There is room to go on with so many lines as parts in the same line: with none, or with one, which takes at most 33 bytes, since
-// ", and some next node has line 938" is the longest, and a comma.
+// There is room to go on with so many lines as parts in the same line: with none, or with one, which takes at most 38 bytes and a comma,
+// since ", and line 938 holds and does not hold" is the longest.
 fn goes_on(c: Cursor, rest: u16) -> bool {
     if rest == 0 {
         return fits(c);
@@ -137,7 +137,7 @@ fn goes_on(c: Cursor, rest: u16) -> bool {
     if c.over {
         return false;
     }
-    c.column <= 66
+    c.column <= 61
 }
 
 // Ends the line and begins the next one at a level.
