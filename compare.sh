@@ -2,7 +2,7 @@
 # compare.sh FIRST SECOND: compares two machine sheets. A file whose name ends in .txt is text: decimal words, blanks, `#` comments; any
 # other is 16-bit words, low byte first.
 # Prints `equal`, `unequal`, or `refused Q S`, the refusing question's number and its sheet, and then the same in words; where the two
-# are unequal, the rule that tells them apart, line by line. What is wrong with a text goes to standard error as
+# are unequal, the rule that tells them apart, as a sentence and line by line. What is wrong with a text goes to standard error as
 # `FILE: line L, column C: ..`, and the exit status is 1; so it is with a first file that is not as long as its header says.
 set -eu
 if [ $# -ne 2 ]; then

@@ -1,18 +1,21 @@
 //! A judge of what the explaining program prints. Which rule is written is free: its words are read back into a rule sheet, which has to
-//! be a right one for the two machines, and the verdict has to be what the checker's own truth says of that sheet.
+//! be a right one for the two machines, no line of it twice. The sentence before it has to be true at the same nodes of both machines as
+//! the sheet's last line, and the verdict has to be what the checker's own truth says of that sheet.
 
 use crate::compare::Both;
 use crate::machine::Machine;
 use crate::program::{cut, expected_output, words, BYTES};
 use crate::rules::Rules;
+use crate::sentence;
 use crate::truth::truth;
 use crate::worked::written_head;
-use crate::written::judge_rule;
+use crate::written::{judge_rule, twice};
 
 const EQUAL: &str = "The two machines are equal: every rule is kept by both or by neither. \
                      A replacement needs no rehearsal call.\n";
 const UNEQUAL: &str =
     "The two machines are unequal. One of them keeps this rule and the other does not:\n";
+const LINES: &str = "Line by line:";
 
 /// Says what is wrong with the text printed for an input. If nothing is, gives the line of the comparing program, and the reason that
 /// the text gives where it is a refusal.
@@ -55,15 +58,43 @@ fn judge_unequal(input: &[u8], printed: &str) -> Result<String, String> {
     let said = printed
         .strip_prefix(UNEQUAL)
         .ok_or("unequal machines are not called so")?;
-    let mut lines: Vec<&str> = said.lines().collect();
-    let verdict = lines.pop().ok_or("no verdict")?;
-    let sheet = sheet_of(&lines)?;
+    let mut sentence: Vec<&str> = said.lines().collect();
+    let verdict = sentence.pop().ok_or("no verdict")?;
+    let heading = sentence.iter().position(|&line| line == LINES);
+    let lines = sentence.split_off(heading.ok_or("no numbered lines")?);
+    let sheet = sheet_of(&lines[1..])?;
     judge_rule(&both, &sheet)?;
+    if let Some((above, below)) = twice(&sheet) {
+        return Err(format!("lines {above} and {below} are the same"));
+    }
     let rules = Rules::read(&sheet).map_err(|question| format!("refused by {question}"))?;
+    judge_sentence(&both, &rules, &sentence)?;
     match verdict == verdict_on(&both, &rules)? && said.ends_with('\n') {
         true => Ok(String::new()),
         false => Err(format!("a wrong verdict: {verdict}")),
     }
+}
+
+/// The sentence is true where the last of the lines is. It refers to lines above that one, and to signals of the machines.
+fn judge_sentence(both: &Both, rules: &Rules, printed: &[&str]) -> Result<(), String> {
+    let sentence = sentence::read(printed)?;
+    let (lines, signals) = sentence.names();
+    if !lines
+        .iter()
+        .all(|line| (1..rules.lines.len()).contains(line))
+    {
+        return Err("the sentence refers to no line above the last".to_string());
+    }
+    if !signals.iter().all(|i| (1..=both.first.signals).contains(i)) {
+        return Err("the sentence names no signal".to_string());
+    }
+    for machine in [&both.first, &both.second] {
+        let truth = truth(machine, rules);
+        if Some(&sentence.truth(machine, &truth)) != truth.last() {
+            return Err("the sentence does not say the rule".to_string());
+        }
+    }
+    Ok(())
 }
 
 /// The rule sheet of a rule in words.
@@ -123,7 +154,8 @@ mod tests {
     use crate::program::bytes;
     use crate::worked;
 
-    const NEXT_OF_SIGNAL: &str = "1: signal 1 is on\n2: some next node has line 1\n";
+    const NEXT_OF_SIGNAL: &str = "  some next node has: signal 1 is on\nLine by line:\n\
+                                  1: signal 1 is on\n2: some next node has line 1\n";
     const FIRST_KEEPS: &str =
         "The first machine keeps the rule, line 2. The second breaks it at its start node 1.\n";
 
@@ -144,6 +176,11 @@ mod tests {
             ("some next node has line 1", "line 1 does not hold"),
             ("has line 1", "has line 2"),
             ("signal 1", "signal 2"),
+            ("has: signal 1", "has: signal 2"),
+            ("has: signal 1 is on", "has: signal 1 is off"),
+            ("some next node has:", "no next node has:"),
+            ("has: signal 1 is on", "has line 1, and line 2 holds"),
+            ("Line by line:\n", ""),
             ("1: ", "2: "),
             ("are unequal", "are equal"),
             (".\n", "."),

@@ -12,7 +12,7 @@
 //!   and a judge of written rules. `partition`: the same by partition refinement.
 //! - `program`: how the comparing program cuts its input, and the line it prints. `shown`: the text that
 //!   the labelling program prints, and a judge of what the path program prints.
-//! - `explanation`: a judge of what the explaining program prints.
+//! - `explanation`: a judge of what the explaining program prints. `sentence`: the sentence that it says first, read back.
 //! - `text`: sheets as text, and what the program `sheet` prints.
 //! - `refusal`: a refusing question and the sheet it was asked of.
 //! - `components`: strong components of a directed graph.
@@ -36,6 +36,7 @@ pub mod program;
 pub mod refusal;
 pub mod rng;
 pub mod rules;
+pub mod sentence;
 pub mod shown;
 pub mod text;
 pub mod trial;

@@ -26,6 +26,25 @@ pub fn judge_rule(both: &Both, space: &[u16]) -> Result<usize, String> {
     }
 }
 
+/// Two lines of the rule at the head of a space that say the same of the same lines, if there are any; an "or" says the same either
+/// way round. No written rule has such lines.
+pub fn twice(space: &[u16]) -> Option<(usize, usize)> {
+    let lines = usize::from(*space.get(3)?);
+    let records = space.get(HEAD..HEAD + 6 * lines)?.chunks_exact(6);
+    let mut said: Vec<Vec<u16>> = Vec::new();
+    for (above, record) in records.enumerate() {
+        let mut record = record.to_vec();
+        if record[0] == 2 {
+            record[1..3].sort_unstable();
+        }
+        if let Some(before) = said.iter().position(|other| *other == record) {
+            return Some((before + 1, above + 1));
+        }
+        said.push(record);
+    }
+    None
+}
+
 /// The words of the sheet, once its head is right and its lines are few enough.
 fn written_sheet<'a>(both: &Both, space: &'a [u16]) -> Result<&'a [u16], String> {
     let lines = *space.get(3).ok_or("no room for a header")?;
@@ -114,6 +133,17 @@ mod tests {
         assert!(judge_rule(&m1_and_m3(), &rule(&lines)).is_ok());
         lines.insert(0, SIGNAL);
         assert_eq!(say(&rule(&lines)), format!("{} lines", most + 1));
+    }
+
+    #[test]
+    fn a_line_that_stands_twice() {
+        let either = |i: u16, k: u16| [2, i, k, 0, 0, 0];
+        let second = [0, 2, 0, 0, 0, 0];
+        assert_eq!(twice(&rule(&[SIGNAL, second, either(1, 2)])), None);
+        assert_eq!(twice(&rule(&[SIGNAL, second, SIGNAL])), Some((1, 3)));
+        let turned = rule(&[SIGNAL, second, either(1, 2), either(2, 1)]);
+        assert_eq!(twice(&turned), Some((3, 4)));
+        assert_eq!(twice(&[1, 4, 5]), None);
     }
 
     #[test]

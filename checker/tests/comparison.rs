@@ -3,7 +3,9 @@
 
 mod exports;
 
+use checker::compare::Answer;
 use checker::trial;
+use checker::written::twice;
 use std::io::Write;
 
 const SEED: u64 = 0x636f_6d70_6172_6501;
@@ -11,7 +13,13 @@ const CASES: u64 = 100_000;
 
 #[test]
 fn comparison() {
-    let seen = trial::comparison(SEED, CASES, exports::compare);
+    let seen = trial::comparison(SEED, CASES, |first, second, space| {
+        let answer = exports::compare(first, second, space);
+        if answer == Answer::Unequal {
+            assert_eq!(twice(space), None, "a line that stands twice");
+        }
+        answer
+    });
     writeln!(
         std::io::stderr(),
         "seed {SEED:#x}, {CASES} pairs of machines\n{seen}"

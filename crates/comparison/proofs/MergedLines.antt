@@ -6,16 +6,17 @@ use native.Mathlib.Omega.{arith}
 use native.Mathlib.Decide.{decLe, ℕ-discrete}
 use mathlib.Core.List.{List}
 use lib.ListN.{length, getD, set, length-set}
+use lib.Dec.{T}
 use lib.Seq.{getD-set-same, getD-set-other}
-use Rattle.truth.specs.Passed.{nodes, lifted, machineRefusal}
-use Rattle.truth.proofs.Passed.{sum-iff}
+use Rattle.truth.specs.Passed.{kripke, nodes, lifted, machineRefusal}
+use Rattle.truth.proofs.Passed.{sum-iff, edge-stays}
 use Rattle.truth.proofs.Decided.{truth-decided}
-use Rattle.comparison.specs.Lines.{Entry, neg, alt, sheet, entry, Refers, Downward}
+use Rattle.comparison.specs.Lines.{Entry, neg, alt, next, sheet, entry, Refers, Downward}
 use Rattle.comparison.specs.Blocks.{TrueIn}
-use Rattle.comparison.specs.Needed.{Same, Opposite, Always, Stands, AllStand, Opposed, Merged}
+use Rattle.comparison.specs.Needed.{Same, Opposite, NextOf, Always, Stands, AllStand, Opposed, Followed, Merged}
 use Rattle.comparison.proofs.Lines.{lines-are}
 use Rattle.comparison.proofs.LinesAccepted.{accepted}
-use Rattle.comparison.proofs.TrueLines.{true-neg, true-alt}
+use Rattle.comparison.proofs.TrueLines.{true-neg, true-alt, true-next}
 
 -- ---- truths
 
@@ -26,6 +27,11 @@ same-refl ls j M ok s lo hi = Iff·rfl
 pub same-then : (ls ms ns : List Entry) (i j k : ℕ) → Same ls i ms j → Same ms j ns k → Same ls i ns k
 unfolding Same
 same-then ls ms ns i j k x y M ok s lo hi = Iff·trans (x M ok s lo hi) (y M ok s lo hi)
+
+-- next of the same line
+pub both-next : (ls : List Entry) (i j k : ℕ) → NextOf ls i k → NextOf ls j k → Same ls i ls j
+unfolding NextOf Same
+both-next ls i j k x y M ok s lo hi = Iff·trans (x M ok s lo hi) (Iff·symm (y M ok s lo hi))
 
 module _ (a : ℕ) (ls : List Entry) (down : Downward a ls) where
   -- the truth of a line is decided
@@ -51,6 +57,16 @@ module _ (a : ℕ) (ls : List Entry) (down : Downward a ls) where
     pub opposite-line : (j t : ℕ) → entry ls i ≡ neg j → Same ls j ls t → Opposite ls i t
     unfolding Opposite Same
     opposite-line j t e x M ok s lo hi = Iff·trans (true-neg M ok a ls down i l h s lo hi j e) (Iff·not (x M ok s lo hi))
+
+    -- "some next node has line j"
+    pub next-of-line : (j t : ℕ) → entry ls i ≡ next j → Same ls j ls t → NextOf ls i t
+    unfolding NextOf Same
+    next-of-line j t e x M ok s lo hi =
+        let at = edge-stays M ok s lo hi in
+        Iff·trans (true-next M ok a ls down i l h s lo hi j e) (
+          λ y. let b = at (y .0) (y .1) in (y .0, y .1, x M ok (y .0) (b .0) (b .1) .0 (y .2)),
+          λ y. let b = at (y .0) (y .1) in (y .0, y .1, x M ok (y .0) (b .0) (b .1) .1 (y .2)),
+        )
 
     -- "line j or line k"
     module _ (j k x y : ℕ) (e : entry ls i ≡ alt j k) (sx : Same ls j ls x) (sy : Same ls k ls y) where
@@ -108,15 +124,20 @@ stands-set ls i v same size small x lv hv e k lo hi = by-cases (decLe k i) above
         subst (λ (n : ℕ). Stands ls (set same (i + 1) v) n) (sym z) (record { low = rw q lv; high = rw q hv; true = rw q e })
 
 module _ (a : ℕ) (ls : List Entry) (down : Downward a ls) (i : ℕ) (inside : i + 1 ≤ length ls) (small : i < 938)
-    (same other : List ℕ) (top : ℕ) (size : length same ≡ 1024) (sizeOther : length other ≡ 1024) (m : Merged ls i same other top) where
+    (same other nexts : List ℕ) (top : ℕ) (size : length same ≡ 1024) (sizeOther : length other ≡ 1024) (sizeNexts : length nexts ≡ 1024)
+    (m : Merged ls i same other nexts top) where
   opposed-still : (k : ℕ) → 1 ≤ getD other k 0 → Opposed ls (i + 1) other k
   opposed-still k h = let o = m .opposed k h in let b = o .high in record { low = o .low; high = omega arith; true = o .true }
 
+  followed-still : (k : ℕ) → 1 ≤ getD nexts k 0 → Followed ls (i + 1) nexts k
+  followed-still k h = let o = m .followed k h in let b = o .high in record { high = omega arith; true = o .true }
+
   -- the line stays as it is
-  pub merged-kept : Merged ls (i + 1) (set same (i + 1) (i + 1)) other top
+  pub merged-kept : Merged ls (i + 1) (set same (i + 1) (i + 1)) other nexts top
   merged-kept = record {
     stands = stands-set ls i (i + 1) same size small (m .stands) (omega arith) (omega arith) (same-refl ls (i + 1));
     opposed = opposed-still;
+    followed = followed-still;
     always = m .always;
   }
 
@@ -140,7 +161,7 @@ module _ (a : ℕ) (ls : List Entry) (down : Downward a ls) (i : ℕ) (inside : 
     opposed-here : Opposite ls (i + 1) t
     opposed-here = opposite-line a ls down (i + 1) (omega arith) inside j t e (rw at (there .true))
 
-    found : (r : ℕ) → 1 ≤ r → r ≡ getD other t 0 → Merged ls (i + 1) (set same (i + 1) r) other top
+    found : (r : ℕ) → 1 ≤ r → r ≡ getD other t 0 → Merged ls (i + 1) (set same (i + 1) r) other nexts top
     found r lo q =
         let h : 1 ≤ getD other t 0 = rw q at lo in
         let o = m .opposed t h in
@@ -149,6 +170,7 @@ module _ (a : ℕ) (ls : List Entry) (down : Downward a ls) (i : ℕ) (inside : 
           stands = stands-set ls i r same size small (m .stands) lo (omega arith)
               (both-opposite a ls down (i + 1) t r lo (omega arith) opposed-here (rw q (o .true)));
           opposed = opposed-still;
+          followed = followed-still;
           always = m .always;
         }
 
@@ -180,14 +202,69 @@ module _ (a : ℕ) (ls : List Entry) (down : Downward a ls) (i : ℕ) (inside : 
             let o = opposed-still k (rw q at h) in
             record { low = o .low; high = rw q (o .high); true = rw q (o .true) }
 
-    added : Merged ls (i + 1) (set same (i + 1) (i + 1)) (set (set other t (i + 1)) (i + 1) t) top
-    added = record { stands = merged-kept .stands; opposed = paired; always = m .always }
+    added : Merged ls (i + 1) (set same (i + 1) (i + 1)) (set (set other t (i + 1)) (i + 1) t) nexts top
+    added = record { stands = merged-kept .stands; opposed = paired; followed = followed-still; always = m .always }
 
     pub merged-not : (r : ℕ) (other′ : List ℕ)
         → ((1 ≤ r) × (r ≡ getD other t 0) × (other′ ≡ other)) ⊎ ((r ≡ i + 1) × (other′ ≡ set (set other t (i + 1)) (i + 1) t))
-        → Merged ls (i + 1) (set same (i + 1) r) other′ top
+        → Merged ls (i + 1) (set same (i + 1) r) other′ nexts top
     merged-not r other′ (inl x) = rw (x .2) (found r (x .0) (x .1))
     merged-not r other′ (inr x) = rw (x .0, x .1) added
+
+  -- "some next node has line j"
+  module _ (j t : ℕ) (e : entry ls (i + 1) ≡ next j) (at : t ≡ getD same j 0) where
+    above-next : (1 ≤ j) × (j ≤ i)
+    unfolding Refers
+    above-next =
+        let r : Refers a (i + 1) (next j) = rw e at (down .refers (i + 1) (omega arith) inside) in
+        (r .0, omega arith)
+
+    leads : Stands ls same j
+    leads = m .stands j (above-next .0) (above-next .1)
+
+    leads-high : t ≤ i
+    leads-high = let h = leads .high in let b = above-next .1 in omega arith
+
+    next-here : NextOf ls (i + 1) t
+    next-here = next-of-line a ls down (i + 1) (omega arith) inside j t e (rw at (leads .true))
+
+    said : (r : ℕ) → 1 ≤ r → r ≡ getD nexts t 0 → Merged ls (i + 1) (set same (i + 1) r) other nexts top
+    said r lo q =
+        let o = m .followed t (rw q at lo) in
+        let b : r ≤ i = rw q (o .high) in
+        record {
+          stands = stands-set ls i r same size small (m .stands) lo (omega arith) (both-next ls (i + 1) r t next-here (rw q (o .true)));
+          opposed = opposed-still;
+          followed = followed-still;
+          always = m .always;
+        }
+
+    followed-more : (k : ℕ) → 1 ≤ getD (set nexts t (i + 1)) k 0 → Followed ls (i + 1) (set nexts t (i + 1)) k
+    followed-more k h = by-cases (ℕ-discrete k t) here other-one
+      where
+        table : List ℕ
+        table = set nexts t (i + 1)
+
+        here : k ≡ t → Followed ls (i + 1) table k
+        here z =
+            let b = leads-high in
+            let q : getD table t 0 ≡ i + 1 = getD-set-same nexts t (i + 1) 0 (omega arith) in
+            let v : i + 1 ≤ i + 1 = omega arith in
+            subst (λ (n : ℕ). Followed ls (i + 1) table n) (sym z) (record { high = rw q v; true = rw q next-here })
+
+        other-one : (k ≡ t → ⊥) → Followed ls (i + 1) table k
+        other-one d =
+            let q : getD table k 0 ≡ getD nexts k 0 = getD-set-other nexts t k (i + 1) 0 d in
+            let o = followed-still k (rw q at h) in
+            record { high = rw q (o .high); true = rw q (o .true) }
+
+    first-said : Merged ls (i + 1) (set same (i + 1) (i + 1)) other (set nexts t (i + 1)) top
+    first-said = record { stands = merged-kept .stands; opposed = opposed-still; followed = followed-more; always = m .always }
+
+    pub merged-next : (r : ℕ) (nexts′ : List ℕ) → ((1 ≤ r) × (r ≡ getD nexts t 0) × (nexts′ ≡ nexts)) ⊎ ((r ≡ i + 1) × (nexts′ ≡ set nexts t (i + 1)))
+        → Merged ls (i + 1) (set same (i + 1) r) other nexts′ top
+    merged-next r nexts′ (inl x) = rw (x .2) (said r (x .0) (x .1))
+    merged-next r nexts′ (inr x) = rw (x .0, x .1) first-said
 
   -- "line j or line k"
   module _ (j k x y : ℕ) (e : entry ls (i + 1) ≡ alt j k) (atx : x ≡ getD same j 0) (aty : y ≡ getD same k 0) where
@@ -247,42 +324,57 @@ module _ (a : ℕ) (ls : List Entry) (down : Downward a ls) (i : ℕ) (inside : 
     always-now u (inr q) h = rw q (m .always (rw q at h))
 
     pub merged-or : (r u : ℕ) → ((x ≡ getD other top 0) × (r ≡ y)) ⊎ (((y ≡ getD other top 0) × (r ≡ x)) ⊎ (r ≡ i + 1))
-        → ((getD other x 0 ≡ y) × (u ≡ i + 1)) ⊎ (u ≡ top) → Merged ls (i + 1) (set same (i + 1) r) other u
-    merged-or r u p q = record { stands = stood r p; opposed = opposed-still; always = always-now u q }
+        → ((getD other x 0 ≡ y) × (u ≡ i + 1)) ⊎ (u ≡ top) → Merged ls (i + 1) (set same (i + 1) r) other nexts u
+    merged-or r u p q = record { stands = stood r p; opposed = opposed-still; followed = followed-still; always = always-now u q }
 
 -- nothing is done yet
-pub merged-none : (ls : List Entry) (same other : List ℕ) → ((k : ℕ) → getD other k 0 ≡ 0) → Merged ls 0 same other 0
-merged-none ls same other z = record {
+pub merged-none : (ls : List Entry) (same other nexts : List ℕ) → ((k : ℕ) → getD other k 0 ≡ 0) → ((k : ℕ) → getD nexts k 0 ≡ 0)
+    → Merged ls 0 same other nexts 0
+merged-none ls same other nexts z w = record {
   stands = λ k lo hi. absurd (omega arith);
   opposed = λ k h. absurd (omega (arith, z k));
+  followed = λ k h. absurd (omega (arith, w k));
   always = λ h. absurd (omega arith);
 }
 
 -- ---- the next line, i, below n lines
 
 module _ (a : ℕ) (ls : List Entry) (down : Downward a ls) (n i : ℕ) (e : i ≡ n + 1) (inside : i ≤ length ls) (small : i ≤ 938)
-    (same other same′ : List ℕ) (top : ℕ) (size : length same ≡ 1024) (sizeOther : length other ≡ 1024) (m : Merged ls n same other top) where
-  pub next-kept : same′ ≡ set same i i → Merged ls i same′ other top
-  next-kept s = rw (s, e) (merged-kept a ls down n (omega arith) (omega arith) same other top size sizeOther m)
+    (same other nexts same′ : List ℕ) (top : ℕ) (size : length same ≡ 1024) (sizeOther : length other ≡ 1024) (sizeNexts : length nexts ≡ 1024)
+    (m : Merged ls n same other nexts top) where
+  pub next-kept : same′ ≡ set same i i → Merged ls i same′ other nexts top
+  next-kept s = rw (s, e) (merged-kept a ls down n (omega arith) (omega arith) same other nexts top size sizeOther sizeNexts m)
 
   pub next-not : (j t r : ℕ) (other′ : List ℕ) → entry ls i ≡ neg j → t ≡ getD same j 0
       → ((1 ≤ r) × (r ≡ getD other t 0) × (other′ ≡ other)) ⊎ ((r ≡ i) × (other′ ≡ set (set other t i) i t))
-      → same′ ≡ set same i r → Merged ls i same′ other′ top
+      → same′ ≡ set same i r → Merged ls i same′ other′ nexts top
   next-not j t r other′ h at x s =
       rw (s, e)
-      (merged-not a ls down n (omega arith) (omega arith) same other top size sizeOther m j t (rw e at h) at r other′
+      (merged-not a ls down n (omega arith) (omega arith) same other nexts top size sizeOther sizeNexts m j t (rw e at h) at r other′
       (subst (λ (k : ℕ). ((1 ≤ r) × (r ≡ getD other t 0) × (other′ ≡ other)) ⊎ ((r ≡ k) × (other′ ≡ set (set other t k) k t))) e x))
+
+  pub next-next : (j t r : ℕ) (nexts′ : List ℕ) → entry ls i ≡ next j → t ≡ getD same j 0
+      → ((1 ≤ r) × (r ≡ getD nexts t 0) × (nexts′ ≡ nexts)) ⊎ ((r ≡ i) × (nexts′ ≡ set nexts t i)) → same′ ≡ set same i r → Merged ls i same′ other nexts′ top
+  next-next j t r nexts′ h at x s =
+      rw (s, e)
+      (merged-next a ls down n (omega arith) (omega arith) same other nexts top size sizeOther sizeNexts m j t (rw e at h) at r nexts′
+      (subst (λ (k : ℕ). ((1 ≤ r) × (r ≡ getD nexts t 0) × (nexts′ ≡ nexts)) ⊎ ((r ≡ k) × (nexts′ ≡ set nexts t k))) e x))
 
   pub next-or : (j k x y r u : ℕ) → entry ls i ≡ alt j k → x ≡ getD same j 0 → y ≡ getD same k 0
       → ((x ≡ getD other top 0) × (r ≡ y)) ⊎ (((y ≡ getD other top 0) × (r ≡ x)) ⊎ (r ≡ i))
-      → ((getD other x 0 ≡ y) × (u ≡ i)) ⊎ (u ≡ top) → same′ ≡ set same i r → Merged ls i same′ other u
+      → ((getD other x 0 ≡ y) × (u ≡ i)) ⊎ (u ≡ top) → same′ ≡ set same i r → Merged ls i same′ other nexts u
   next-or j k x y r u h atx aty p q s =
       rw (s, e)
-      (merged-or a ls down n (omega arith) (omega arith) same other top size sizeOther m j k x y (rw e at h) atx aty r u
+      (merged-or a ls down n (omega arith) (omega arith) same other nexts top size sizeOther sizeNexts m j k x y (rw e at h) atx aty r u
       (subst (λ (z : ℕ). ((x ≡ getD other top 0) × (r ≡ y)) ⊎ (((y ≡ getD other top 0) × (r ≡ x)) ⊎ (r ≡ z))) e p)
       (subst (λ (z : ℕ). ((getD other x 0 ≡ y) × (u ≡ z)) ⊎ (u ≡ top)) e q))
 
 -- the table is as long as it was
+pub kept-next-length : (nexts nexts′ : List ℕ) (r i t : ℕ) → length nexts ≡ 1024
+    → ((1 ≤ r) × (r ≡ getD nexts t 0) × (nexts′ ≡ nexts)) ⊎ ((r ≡ i) × (nexts′ ≡ set nexts t i)) → length nexts′ ≡ 1024
+kept-next-length nexts nexts′ r i t size (inl x) = ap length (x .2) ∙ size
+kept-next-length nexts nexts′ r i t size (inr x) = ap length (x .1) ∙ length-set nexts t i ∙ size
+
 pub kept-length : (other other′ : List ℕ) (r i t : ℕ) → length other ≡ 1024
     → ((1 ≤ r) × (r ≡ getD other t 0) × (other′ ≡ other)) ⊎ ((r ≡ i) × (other′ ≡ set (set other t i) i t)) → length other′ ≡ 1024
 kept-length other other′ r i t size (inl x) = ap length (x .2) ∙ size

@@ -4,7 +4,8 @@ use mathlib.Core.Logic.{_⊎_, _↔_}
 use Prim.Native.Nat.{ℕ, _≤_, _<_}
 use mathlib.Core.List.{List}
 use lib.ListN.{length, getD, set}
-use Rattle.truth.specs.Passed.{nodes, machineRefusal}
+use lib.Dec.{T}
+use Rattle.truth.specs.Passed.{kripke, nodes, machineRefusal}
 use Rattle.comparison.specs.Lines.{Entry, sig, neg, alt, next, entry, Downward, Holds}
 use Rattle.comparison.specs.Blocks.{TrueIn}
 use Rattle.comparison.specs.declared.needed.Line.{Line}
@@ -55,6 +56,11 @@ Same ls j ms k = (M : List ℕ) → machineRefusal M ≡ 0 → (s : ℕ) → 1 �
 unfoldable pub Opposite : List Entry → ℕ → ℕ → Type 0
 Opposite ls j k = (M : List ℕ) → machineRefusal M ≡ 0 → (s : ℕ) → 1 ≤ s → s ≤ nodes M → TrueIn M ls j s ↔ (TrueIn M ls k s → ⊥)
 
+-- line j is true exactly where some next node has line k
+unfoldable pub NextOf : List Entry → ℕ → ℕ → Type 0
+NextOf ls j k = (M : List ℕ) → machineRefusal M ≡ 0 → (s : ℕ) → 1 ≤ s → s ≤ nodes M
+    → TrueIn M ls j s ↔ ((t : ℕ) × T (kripke M .edge s t) × TrueIn M ls k t)
+
 -- line j is true everywhere
 unfoldable pub Always : List Entry → ℕ → Type 0
 Always ls j = (M : List ℕ) → machineRefusal M ≡ 0 → (s : ℕ) → 1 ≤ s → s ≤ nodes M → TrueIn M ls j s
@@ -89,10 +95,16 @@ pub record Opposed (ls : List Entry) (i : ℕ) (other : List ℕ) (k : ℕ) : Ty
   pub high : getD other k 0 ≤ i
   pub true : Opposite ls k (getD other k 0)
 
+-- `nexts` at k, where it is not 0, is a line that is true exactly where some next node has line k
+pub record Followed (ls : List Entry) (i : ℕ) (nexts : List ℕ) (k : ℕ) : Type 0 where
+  pub high : getD nexts k 0 ≤ i
+  pub true : NextOf ls (getD nexts k 0) k
+
 -- lines 1 to i are done; line `top`, if it is not 0, is true everywhere
-pub record Merged (ls : List Entry) (i : ℕ) (same other : List ℕ) (top : ℕ) : Type 0 where
+pub record Merged (ls : List Entry) (i : ℕ) (same other nexts : List ℕ) (top : ℕ) : Type 0 where
   pub stands : AllStand ls i same
   pub opposed : (k : ℕ) → 1 ≤ getD other k 0 → Opposed ls i other k
+  pub followed : (k : ℕ) → 1 ≤ getD nexts k 0 → Followed ls i nexts k
   pub always : 1 ≤ top → Always ls top
 
 -- ---- needed lines

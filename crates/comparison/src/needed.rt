@@ -84,6 +84,19 @@ fn opposite(other: &mut [u16; 1024], j: u16, i: u16) -> u16
     i
 }
 
+// Line i is "some next node has line j": an earlier line that says so, or line i, which is then the one for line j.
+fn next_line(nexts: &mut [u16; 1024], j: u16, i: u16) -> u16
+    requires { ⌜ length (now nexts) ≡ 1024 ⌝ }
+    ensures { λ r. ⌜ ((1 ≤ r) × (r ≡ getD (now (nexts .entry)) j 0) × (now (nexts .exit) ≡ now (nexts .entry))) ⊎ ((r ≡ i) × (now (nexts .exit) ≡ set (now (nexts .entry)) j i)) ⌝ }
+{
+    let before = get(nexts, j);
+    if before != 0 {
+        return before;
+    }
+    put(nexts, j, i);
+    i
+}
+
 // Line i is "line x or line y": the other one, where one of them is true nowhere, or line i.
 fn either(other: &[u16; 1024], top: u16, x: u16, y: u16, i: u16) -> u16
     requires { ⌜ length (now other) ≡ 1024 ⌝ }
@@ -111,9 +124,16 @@ fn top_after(other: &[u16; 1024], top: u16, x: u16, y: u16, i: u16) -> u16
 }
 
 // The next line, i, is done.
-fn merge_line(line: Line, i: u16, same: &mut [u16; 1024], other: &mut [u16; 1024], top: u16) -> u16
-    requires { ⌜ (1 ≤ i) × (i ≤ 938) × (length (now same) ≡ 1024) × (length (now other) ≡ 1024) ⌝ }
-    ensures { λ r. ⌜ (length (now (same .exit)) ≡ 1024) × (length (now (other .exit)) ≡ 1024) × ((a : ℕ) (ls : List Entry) → Downward a ls → i ≤ length ls → entry ls i ≡ entryOf line → Merged ls (i - 1) (now (same .entry)) (now (other .entry)) top → Merged ls i (now (same .exit)) (now (other .exit)) r) ⌝ }
+fn merge_line(
+    line: Line,
+    i: u16,
+    same: &mut [u16; 1024],
+    other: &mut [u16; 1024],
+    nexts: &mut [u16; 1024],
+    top: u16,
+) -> u16
+    requires { ⌜ (1 ≤ i) × (i ≤ 938) × (length (now same) ≡ 1024) × (length (now other) ≡ 1024) × (length (now nexts) ≡ 1024) ⌝ }
+    ensures { λ r. ⌜ (length (now (same .exit)) ≡ 1024) × (length (now (other .exit)) ≡ 1024) × (length (now (nexts .exit)) ≡ 1024) × ((a : ℕ) (ls : List Entry) → Downward a ls → i ≤ length ls → entry ls i ≡ entryOf line → Merged ls (i - 1) (now (same .entry)) (now (other .entry)) (now (nexts .entry)) top → Merged ls i (now (same .exit)) (now (other .exit)) (now (nexts .exit)) r) ⌝ }
 {
     match line {
         Line::Signal(_) => {
@@ -133,8 +153,10 @@ fn merge_line(line: Line, i: u16, same: &mut [u16; 1024], other: &mut [u16; 1024
             put(same, i, found);
             top_after(other, top, x, y, i)
         }
-        Line::Next(_) => {
-            put(same, i, i);
+        Line::Next(j) => {
+            let there = get(same, j);
+            let found = next_line(nexts, there, i);
+            put(same, i, found);
             top
         }
     }
@@ -146,11 +168,12 @@ fn merge(words: &[u16; 5632], n: u16, same: &mut [u16; 1024])
     ensures { λ r. ⌜ (length (now (same .exit)) ≡ 1024) × ((a : ℕ) (ls : List Entry) → Downward a ls → Holds (now (words .entry)) ls → n ≤ length ls → AllStand ls n (now (same .exit))) ⌝ }
 {
     let mut other = [0u16; 1024];
+    let mut nexts = [0u16; 1024];
     let mut top: u16 = 0;
     let mut i: u16 = 0;
     while i < n {
         i += 1;
-        top = merge_line(line_at(words, i), i, same, &mut other, top);
+        top = merge_line(line_at(words, i), i, same, &mut other, &mut nexts, top);
     }
 }
 

@@ -2,3 +2,4 @@
 pub mod ToldRules
 pub mod WrittenRules
 pub mod Explanations
+pub mod Pages

@@ -1,3 +1,4 @@
 -- The definitions of the explaining program.
 pub mod Verdicts
 pub mod Program
+pub mod Pages

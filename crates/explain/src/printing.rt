@@ -1,5 +1,6 @@
 // The answer in words, on standard output. What a descriptor carries cannot be said in a contract; each function is proved safe and ends.
 use crate::answer::Said;
+use crate::sentence;
 use crate::verdict::Verdict;
 use say::number;
 use say::text;
@@ -19,10 +20,19 @@ pub fn print(said: Said, rule: &[u16]) {
             text(
                 b"The two machines are unequal. One of them keeps this rule and the other does not:\n",
             );
+            print_sentence(rule);
+            text(b"Line by line:\n");
             print_rule(rule);
             print_verdict(verdict, rules::lines(rule));
         }
     }
+}
+
+// The rule in one sentence.
+fn print_sentence(rule: &[u16]) {
+    let mut page = [0u8; 4096];
+    let n = sentence::sentence(rule, &mut page);
+    text(&page[..n]);
 }
 
 // One numbered line for each line of the sheet.

@@ -13,14 +13,20 @@ use Rattle.comparison.proofs.needed.merge.Statement.{statement}
 use Rattle.comparison.proofs.needed.merge.Tie as tie
 
 abbrev Inv-loop : tie.InvT-loop
-Inv-loop words n same₀ other₀ top₀ i₀ same other top i =
-    (i ≤ n) × (length same ≡ 1024) × (length other ≡ 1024) × ((a : ℕ) (ls : List Entry) → Downward a ls → Holds words ls → n ≤ length ls → Merged ls i same other top)
+Inv-loop words n same₀ other₀ nexts₀ top₀ i₀ same other nexts top i =
+    (i ≤ n) × (length same ≡ 1024) × (length other ≡ 1024) × (length nexts ≡ 1024) × ((a : ℕ) (ls : List Entry) → Downward a ls → Holds words ls → n ≤ length ls → Merged ls i same other nexts top)
 
 abbrev μ-loop : tie.MeasureT-loop
-μ-loop words n same₀ other₀ top₀ i₀ same other top i = n - i
+μ-loop words n same₀ other₀ nexts₀ top₀ i₀ same other nexts top i = n - i
 
 loop-holds : tie.Need-loop-holds Inv-loop μ-loop
-loop-holds c = (search needs, search needs, refl, λ a ls down holds inside. merged-none ls (c .args .same .now) _ (λ k. padded [] 1024 k (omega arith)))
+loop-holds c = (
+  search needs,
+  search needs,
+  refl,
+  refl,
+  λ a ls down holds inside. merged-none ls (c .args .same .now) _ _ (λ k. padded [] 1024 k (omega arith)) (λ k. padded [] 1024 k (omega arith)),
+)
 
 add-i : tie.Need-add-i Inv-loop μ-loop
 add-i c = search needs
@@ -36,22 +42,23 @@ loop-less c = search needs
 
 loop-again : tie.Need-loop-again Inv-loop μ-loop
 loop-again c =
-    let at = c .before .before .before .before .before .loop in
+    let at = c .before .before .before .before .before .before .loop in
     let e : at .i + 1 - 1 ≡ at .i = omega arith in
     let got = c .merge-line .ensures in (
       search needs,
       got .0,
       got .1,
+      got .2,
       λ a ls down holds inside.
           let here : at .i + 1 ≤ length ls = omega arith in
-          got .2 a ls down here (c .before .before .before .line-at .ensures ls holds here) (rw e (at .inv .3 a ls down holds inside)),
+          got .3 a ls down here (c .before .before .before .before .line-at .ensures ls holds here) (rw e (at .inv .4 a ls down holds inside)),
     )
 
 returns : tie.Need-returns Inv-loop μ-loop
 returns c =
     let at = c .before .loop in
     let e : at .i ≡ c .before .before .args .n = omega arith in
-    (at .inv .1, λ a ls down holds inside. rw e at (at .inv .3 a ls down holds inside .stands))
+    (at .inv .1, λ a ls down holds inside. rw e at (at .inv .4 a ls down holds inside .stands))
 
 pub merge-spec : {M : Type 1} → statement M
 merge-spec =

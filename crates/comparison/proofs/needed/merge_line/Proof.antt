@@ -3,7 +3,7 @@ use mathlib.Core.Path.{ap, _∙_}
 use Prim.Native.Nat.{_-_}
 use native.Mathlib.Omega.{arith}
 use Rattle.comparison.specs.Needed.{entryOf}
-use Rattle.comparison.proofs.MergedLines.{kept-length, next-kept, next-not, next-or}
+use Rattle.comparison.proofs.MergedLines.{kept-length, kept-next-length, next-kept, next-not, next-next, next-or}
 use borrow.Author.Needs.{needs}
 use Rattle.comparison.proofs.needed.merge_line.Statement.{statement}
 use Rattle.comparison.proofs.needed.merge_line.Tie as tie
@@ -44,8 +44,14 @@ put-requires-3 c κs = search needs
 top-after-requires : tie.Need-top-after-requires
 top-after-requires c κs = search needs
 
-enum-told-2 : tie.Need-enum-told-2
-enum-told-2 c = search needs
+enum-known-line-3 : tie.Need-enum-known-line-3
+enum-known-line-3 c = search needs
+
+get-requires-4 : tie.Need-get-requires-4
+get-requires-4 c κs = search needs
+
+next-line-requires : tie.Need-next-line-requires
+next-line-requires c κs = search needs
 
 put-requires-4 : tie.Need-put-requires-4
 put-requires-4 c κs = search needs
@@ -55,8 +61,9 @@ returns c =
     let x = c .before .before .before .before .args in (
       c .put .ensures .0,
       search needs,
+      search needs,
       λ a ls down inside e m.
-          next-kept a ls down (x .i - 1) (x .i) (omega arith) inside (omega arith) (x .same .now) (x .other .now) _ (x .top) (search needs) (search needs) m (c .put .ensures .1),
+          next-kept a ls down (x .i - 1) (x .i) (omega arith) inside (omega arith) (x .same .now) (x .other .now) (x .nexts .now) _ (x .top) (search needs) (search needs) (search needs) m (c .put .ensures .1),
     )
 
 returns-2 : tie.Need-returns-2
@@ -65,8 +72,9 @@ returns-2 c =
     let got = c .before .before .opposite in (
       c .put2 .ensures .0,
       kept-length (x .other .now) _ _ _ _ (search needs) (got .ensures),
+      search needs,
       λ a ls down inside e m.
-          next-not a ls down (x .i - 1) (x .i) (omega arith) inside (omega arith) (x .same .now) (x .other .now) _ (x .top) (search needs) (search needs) m
+          next-not a ls down (x .i - 1) (x .i) (omega arith) inside (omega arith) (x .same .now) (x .other .now) (x .nexts .now) _ (x .top) (search needs) (search needs) (search needs) m
           _ _ _ _ (e ∙ ap entryOf (c .before .before .before .before .before .before .before .line .given .1)) (c .before .before .before .before .get .ensures) (got .ensures) (c .put2 .ensures .1),
     )
 
@@ -75,18 +83,22 @@ returns-3 c =
     let x = c .before .before .before .before .before .before .before .before .before .before .before .before .before .args in (
       c .before .before .put3 .ensures .0,
       search needs,
+      search needs,
       λ a ls down inside e m.
-          next-or a ls down (x .i - 1) (x .i) (omega arith) inside (omega arith) (x .same .now) (x .other .now) _ (x .top) (search needs) (search needs) m
+          next-or a ls down (x .i - 1) (x .i) (omega arith) inside (omega arith) (x .same .now) (x .other .now) (x .nexts .now) _ (x .top) (search needs) (search needs) (search needs) m
           _ _ _ _ _ _ (e ∙ ap entryOf (c .before .before .before .before .before .before .before .before .before .before .before .line2 .given .1)) (c .before .before .before .before .before .before .before .before .get2 .ensures) (c .before .before .before .before .before .before .get3 .ensures) (c .before .before .before .before .either .ensures) (c .top-after .ensures) (c .before .before .put3 .ensures .1),
     )
 
 returns-4 : tie.Need-returns-4
 returns-4 c =
-    let x = c .before .before .before .before .args in (
+    let x = c .before .before .before .before .before .before .before .before .before .args in
+    let got = c .before .before .next-line in (
       c .put4 .ensures .0,
       search needs,
+      kept-next-length (x .nexts .now) _ _ _ _ (search needs) (got .ensures),
       λ a ls down inside e m.
-          next-kept a ls down (x .i - 1) (x .i) (omega arith) inside (omega arith) (x .same .now) (x .other .now) _ (x .top) (search needs) (search needs) m (c .put4 .ensures .1),
+          next-next a ls down (x .i - 1) (x .i) (omega arith) inside (omega arith) (x .same .now) (x .other .now) (x .nexts .now) _ (x .top) (search needs) (search needs) (search needs) m
+          _ _ _ _ (e ∙ ap entryOf (c .before .before .before .before .before .before .before .line3 .given .1)) (c .before .before .before .before .get4 .ensures) (got .ensures) (c .put4 .ensures .1),
     )
 
 pub merge-line-spec : {M : Type 1} → statement M
@@ -105,7 +117,9 @@ merge-line-spec =
     either-requires
     put-requires-3
     top-after-requires
-    enum-told-2
+    enum-known-line-3
+    get-requires-4
+    next-line-requires
     put-requires-4
     returns
     returns-2

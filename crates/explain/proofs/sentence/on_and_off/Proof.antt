@@ -1,0 +1,58 @@
+-- `on_and_off` meets its contract: one put after the other; signals that do not fit in the line are put again in the next one.
+use borrow.Author.Needs.{needs}
+use Rattle.explain.proofs.Pages.{follows-then, follows-back}
+use Rattle.explain.proofs.sentence.on_and_off.Statement.{statement}
+use Rattle.explain.proofs.sentence.on_and_off.Tie as tie
+
+signals-requires : tie.Need-signals-requires
+signals-requires c κs = search needs
+
+returns : tie.Need-returns
+returns c = search needs
+
+signals-requires-2 : tie.Need-signals-requires-2
+signals-requires-2 c κs = search needs
+
+returns-2 : tie.Need-returns-2
+returns-2 c = search needs
+
+and-requires : tie.Need-and-requires
+and-requires c κs = search needs
+
+signals-requires-3 : tie.Need-signals-requires-3
+signals-requires-3 c κs = search needs
+
+returns-3 : tie.Need-returns-3
+returns-3 c = follows-then (c .before .before .before .before .before .before .signals2 .ensures) (follows-then (c .before .before .before .and .ensures) (c .before .signals3 .ensures))
+
+fits-requires : tie.Need-fits-requires
+fits-requires c κs = search needs
+
+returns-4 : tie.Need-returns-4
+returns-4 c = follows-then (c .before .before .before .before .before .before .before .before .signals2 .ensures) (follows-then (c .before .before .before .before .before .and .ensures) (c .before .before .before .signals3 .ensures))
+
+and-requires-2 : tie.Need-and-requires-2
+and-requires-2 c κs = search needs
+
+signals-requires-4 : tie.Need-signals-requires-4
+signals-requires-4 c κs = search needs
+
+returns-5 : tie.Need-returns-5
+returns-5 c = follows-then (c .before .before .before .before .before .before .before .before .before .before .before .before .signals2 .ensures) (follows-then (follows-back (follows-then (c .before .before .before .before .before .before .before .before .before .and .ensures) (c .before .before .before .before .before .before .before .signals3 .ensures))) (follows-then (c .before .before .and2 .ensures) (c .signals4 .ensures)))
+
+pub on-and-off-spec : {M : Type 1} → statement M
+on-and-off-spec =
+    tie.close
+    (tie.spec
+    signals-requires
+    returns
+    signals-requires-2
+    returns-2
+    and-requires
+    signals-requires-3
+    returns-3
+    fits-requires
+    returns-4
+    and-requires-2
+    signals-requires-4
+    returns-5)

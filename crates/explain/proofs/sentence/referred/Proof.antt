@@ -1,0 +1,50 @@
+-- `referred` meets its contract: one put after the other.
+use borrow.Author.Needs.{needs}
+use Rattle.explain.proofs.Pages.{follows-then}
+use Rattle.explain.proofs.sentence.referred.Statement.{statement}
+use Rattle.explain.proofs.sentence.referred.Tie as tie
+
+put-line-requires : tie.Need-put-line-requires
+put-line-requires c κs = search needs
+
+slice-aggregate-put : tie.Need-slice-aggregate-put
+slice-aggregate-put c = search needs
+
+put-requires : tie.Need-put-requires
+put-requires c κs = search needs
+
+returns : tie.Need-returns
+returns c = follows-then (c .before .before .before .before .put-line .ensures) (c .put .ensures)
+
+slice-aggregate-put-2 : tie.Need-slice-aggregate-put-2
+slice-aggregate-put-2 c = search needs
+
+put-requires-2 : tie.Need-put-requires-2
+put-requires-2 c κs = search needs
+
+returns-2 : tie.Need-returns-2
+returns-2 c = follows-then (c .before .before .before .before .before .put-line .ensures) (c .put2 .ensures)
+
+slice-aggregate-put-3 : tie.Need-slice-aggregate-put-3
+slice-aggregate-put-3 c = search needs
+
+put-requires-3 : tie.Need-put-requires-3
+put-requires-3 c κs = search needs
+
+returns-3 : tie.Need-returns-3
+returns-3 c = follows-then (c .before .before .before .before .before .put-line .ensures) (c .put3 .ensures)
+
+pub referred-spec : {M : Type 1} → statement M
+referred-spec =
+    tie.close
+    (tie.spec
+    put-line-requires
+    slice-aggregate-put
+    put-requires
+    returns
+    slice-aggregate-put-2
+    put-requires-2
+    returns-2
+    slice-aggregate-put-3
+    put-requires-3
+    returns-3)
