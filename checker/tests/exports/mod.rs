@@ -11,9 +11,10 @@ use checker::refusal::Refusal;
 
 /// A place of a list of pairs, as the header declares it.
 #[repr(C)]
-struct Place {
-    node: u16,
-    state: u16,
+#[derive(Clone, Copy)]
+pub struct Place {
+    pub node: u16,
+    pub state: u16,
 }
 
 extern "C" {
@@ -153,6 +154,20 @@ fn path_pairs(machine: &[u16], rules: &[u16], asked: Asked, list: &mut [Pair]) -
         .iter()
         .map(|&(node, state)| Place { node, state })
         .collect();
+    let answer = path_places(machine, rules, asked, &mut places);
+    for (pair, place) in list.iter_mut().zip(places) {
+        *pair = (place.node, place.state);
+    }
+    answer
+}
+
+/// The call over a list of pairs by itself.
+pub fn path_places(
+    machine: &[u16],
+    rules: &[u16],
+    asked: Asked,
+    places: &mut [Place],
+) -> path::Answer {
     let (mut sheet, mut length, mut back) = (0, 0, 0);
     // SAFETY: addresses and lengths are those of slices and numbers that live through the call.
     let question = unsafe {
@@ -170,9 +185,6 @@ fn path_pairs(machine: &[u16], rules: &[u16], asked: Asked, list: &mut [Pair]) -
             &mut back,
         )
     };
-    for (pair, place) in list.iter_mut().zip(places) {
-        *pair = (place.node, place.state);
-    }
     path_answer(question, sheet, length, back)
 }
 
