@@ -13,11 +13,11 @@ use checker::truth::Model;
 use exports::Place;
 use shared::machines::{backwards, line, random, ring, Plan};
 use shared::rules::{first_lines, many, waiting};
-use shared::table::{best, Aim, Figure, Table};
+use shared::table::{best, time, Aim, Figure, Table};
 use shared::tuned::{self, Structure};
 use std::cmp::Reverse;
 use std::hint::black_box;
-use std::time::{Duration, Instant};
+use std::time::Duration;
 
 const SEED: u64 = 0x0063_6f73_7401;
 const LINES: usize = 1_024;
@@ -360,23 +360,22 @@ fn compare_shared_tails(table: &mut Table) {
 fn worst_of(pairs: Vec<(String, Pair)>) -> (usize, (String, Pair)) {
     let number = pairs.len();
     let mut space = vec![!0u16; SPACE];
-    let mut time = |pair: &Pair, runs: usize| {
-        let times = (0..runs).map(|_| {
-            let start = Instant::now();
+    let mut least = |pair: &Pair, runs: usize| {
+        let mut run = || {
             black_box(run_proved(pair, &mut space));
-            start.elapsed()
-        });
+        };
+        let times = (0..runs).map(|_| time(&mut run));
         times.min().expect("there is a run")
     };
     let mut timed: Vec<(Duration, (String, Pair))> = pairs
         .into_iter()
-        .map(|named| (time(&named.1, 3), named))
+        .map(|named| (least(&named.1, 3), named))
         .collect();
     timed.sort_by_key(|(took, _)| Reverse(*took));
     timed.truncate(10);
     let worst = timed
         .into_iter()
-        .max_by_key(|(_, named)| time(&named.1, 20));
+        .max_by_key(|(_, named)| least(&named.1, 20));
     (number, worst.expect("there is a pair").1)
 }
 

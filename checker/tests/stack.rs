@@ -114,7 +114,7 @@ fn a_comparison_fits() {
     ] {
         lines_of_a_comparison(&first, &second);
     }
-    let lines = (0..400).map(|case| {
+    let lines = (0..100).map(|case| {
         let [first, second] = changed_ring(&mut Rng::for_case(SEED, case));
         lines_of_a_comparison(&first, &second)
     });

@@ -1,32 +1,51 @@
 //! Times, and the table of them in Markdown.
 
-use std::fmt;
 use std::time::{Duration, Instant};
+use std::{fmt, fs};
 
 const ROUNDS: u32 = 40;
 
 /// A job is run so often in a round that the round takes about as long as this.
-const ROUND: Duration = Duration::from_millis(1);
+const ROUND: Duration = Duration::from_millis(3);
 
 /// The best time of each job. The jobs take turns, so that a busy machine slows all of them.
-pub fn best<const JOBS: usize>(jobs: [&mut dyn FnMut(); JOBS]) -> [Duration; JOBS] {
+pub fn best<const JOBS: usize>(mut jobs: [&mut dyn FnMut(); JOBS]) -> [Duration; JOBS] {
+    let runs = jobs.each_mut().map(|job| runs_a_round(job));
     let mut found = [Duration::MAX; JOBS];
-    let mut runs = [1; JOBS];
-    for round in 0..=ROUNDS {
-        for job in 0..JOBS {
-            let start = Instant::now();
-            for _ in 0..runs[job] {
-                jobs[job]();
-            }
-            let took = start.elapsed() / runs[job];
-            if round == 0 {
-                runs[job] = (ROUND.as_nanos() / took.as_nanos().max(1)).clamp(1, 1_000) as u32;
-            } else {
-                found[job] = found[job].min(took);
-            }
+    for _ in 0..ROUNDS {
+        for (job, (&runs, found)) in jobs.iter_mut().zip(runs.iter().zip(&mut found)) {
+            let took = time(&mut || (0..runs).for_each(|_| job()));
+            *found = took.div_f64(runs.into()).min(*found);
         }
     }
     found
+}
+
+/// How often a job is run in a round, by the shortest of a few runs.
+fn runs_a_round(job: &mut dyn FnMut()) -> u32 {
+    let run = |_| {
+        let start = Instant::now();
+        job();
+        start.elapsed().as_nanos()
+    };
+    let shortest = (0..10).map(run).min().expect("there is a run");
+    (ROUND.as_nanos() / shortest.max(1)).clamp(1, 10_000) as u32
+}
+
+/// The time of a job, less the time in which it waited for a processor.
+pub fn time(job: &mut dyn FnMut()) -> Duration {
+    let start = Instant::now();
+    let before = waited();
+    job();
+    let waiting = waited() - before;
+    start.elapsed().saturating_sub(waiting)
+}
+
+/// How long this thread has waited for a processor so far; 0 where the system does not tell.
+fn waited() -> Duration {
+    let told = fs::read_to_string("/proc/thread-self/schedstat").unwrap_or_default();
+    let nanos = told.split_whitespace().nth(1).map(str::parse);
+    Duration::from_nanos(nanos.and_then(Result::ok).unwrap_or(0))
 }
 
 /// What is measured in a row.
