@@ -74,7 +74,7 @@ fn label_times(what: &str, machine: &[u16], rules: &[u16]) -> [Duration; 2] {
 
 fn label_lines(table: &mut Table) {
     let mut rng = Rng::for_case(SEED, 0);
-    let rules = many(&mut rng, LINES);
+    let rules = many(&mut rng, 16, LINES);
     for (nodes, aim) in [
         (8, Some(1.2)),
         (16, None),
@@ -133,7 +133,7 @@ fn show_a_path(table: &mut Table) {
     let plan = Plan::marked(random(&mut rng, 128, 3), 0);
     let machine = plan.with_signals(&mut rng, 4).sheet();
     let (rules, asked) = loop {
-        let rules = many(&mut rng, LINES);
+        let rules = many(&mut rng, 1, LINES);
         if let Some(asked) = asked_of_line_2(&machine, &rules) {
             break (rules, asked);
         }
@@ -147,8 +147,12 @@ fn show_a_path(table: &mut Table) {
         assert_eq!(path::judge(&model, asked, &before, answer, &list), Ok(()));
         assert!(matches!(answer, path::Answer::Shown { .. }), "{answer:?}");
     }
-    let [path, checks] = path_and_checks(&machine, &rules, asked);
-    let [path_of_two, checks_of_two] = path_and_checks(&machine, &two, asked);
+    let [path, checks, path_of_two, checks_of_two] = best([
+        &mut || run_path(&machine, &rules, asked),
+        &mut || run_checks(&machine, &rules),
+        &mut || run_path(&machine, &two, asked),
+        &mut || run_checks(&machine, &two),
+    ]);
     let [labelling, _] = label_times("the lines above and below", &machine, &rules);
     let beyond = times(
         path.saturating_sub(checks),
@@ -185,18 +189,15 @@ fn asked_of_line_2(machine: &[u16], rules: &[u16]) -> Option<Asked> {
     })
 }
 
-fn path_and_checks(machine: &[u16], rules: &[u16], asked: Asked) -> [Duration; 2] {
-    let mut places = vec![Place { node: 0, state: 0 }; PAIRS];
-    best([
-        &mut || {
-            let machine = black_box(machine);
-            black_box(exports::path_places(machine, rules, asked, &mut places));
-        },
-        &mut || {
-            black_box(exports::check_machine(black_box(machine)));
-            black_box(exports::check_rules(black_box(rules)));
-        },
-    ])
+fn run_path(machine: &[u16], rules: &[u16], asked: Asked) {
+    let mut places = [Place { node: 0, state: 0 }; PAIRS];
+    let machine = black_box(machine);
+    black_box(exports::path_places(machine, rules, asked, &mut places));
+}
+
+fn run_checks(machine: &[u16], rules: &[u16]) {
+    black_box(exports::check_machine(black_box(machine)));
+    black_box(exports::check_rules(black_box(rules)));
 }
 
 // ---- comparison

@@ -2,19 +2,20 @@
 
 use checker::rng::Rng;
 
-pub const AUTOMATA: usize = 16;
-pub const STATES: usize = 16;
+const STATES: usize = 16;
 
-/// Signal 1, then path lines of 16 automata with 16 states and 4 variables. The states of each automaton form four layers of four,
-/// and an edge leads into its own layer or a later one; a layer accepts or does not, so that condition 1 holds. Four edges a state,
-/// as many as the sheet has room for.
-pub fn many(rng: &mut Rng, lines: usize) -> Vec<u16> {
-    let (states, edges) = (AUTOMATA * STATES, AUTOMATA * STATES * 4);
-    let mut words = vec![AUTOMATA as u16, states as u16, edges as u16, lines as u16];
-    for automaton in 0..AUTOMATA {
+/// Signal 1, then path lines of so many automata with 16 states and 4 variables. The states of each automaton form four layers of four,
+/// and an edge leads into its own layer or a later one; a layer accepts or does not, so that condition 1 holds. Four edges a state:
+/// with 16 automata as many as the sheet has room for.
+pub fn many(rng: &mut Rng, automata: usize, lines: usize) -> Vec<u16> {
+    let (states, edges) = (automata * STATES, automata * STATES * 4);
+    let mut words = [automata, states, edges, lines]
+        .map(|count| count as u16)
+        .to_vec();
+    for automaton in 0..automata {
         words.extend([4, (automaton * STATES + 1) as u16]);
     }
-    for automaton in 0..AUTOMATA {
+    for automaton in 0..automata {
         let layers: Vec<u16> = (0..4)
             .map(|layer| (layer + automaton as u16 + rng.below(2) as u16) % 2)
             .collect();
@@ -24,7 +25,7 @@ pub fn many(rng: &mut Rng, lines: usize) -> Vec<u16> {
             words.extend([layers[state / 4], (number * 4 + 1) as u16, next as u16]);
         }
     }
-    for automaton in 0..AUTOMATA {
+    for automaton in 0..automata {
         for state in 0..STATES {
             let mut masks = [0u16; 4];
             for valuation in 0..16 {
@@ -42,7 +43,7 @@ pub fn many(rng: &mut Rng, lines: usize) -> Vec<u16> {
     words.extend([0, 1, 0, 0, 0, 0]);
     for line in 2..=lines as u16 {
         words.push(3 + rng.below(2) as u16);
-        words.push(1 + rng.below(AUTOMATA) as u16);
+        words.push(1 + rng.below(automata) as u16);
         words.extend((0..4).map(|_| 1 + rng.below(usize::from(line) - 1) as u16));
     }
     words
