@@ -13,7 +13,7 @@ use std::sync::Mutex;
 use std::{fs, thread};
 
 const SEED: u64 = 0x6669_6c65_7301;
-const RANDOM: u64 = 1_250;
+const RANDOM: u64 = 1_400;
 
 /// All pairs: the systematic ones, and random ones.
 fn pairs() -> Vec<Pair> {
@@ -114,7 +114,7 @@ fn pairs_of_files() {
         ("refused 0 0", 200),
         ("refused 1 1", 50),
         ("refused 2 1", 200),
-        ("refused 20 0", 10),
+        ("refused 20 0", 5),
         ("refused 21 0", 10),
         ("a fault in a text", 20),
     ] {
