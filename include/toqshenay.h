@@ -2,7 +2,10 @@
  *
  * A sheet is an array of 16-bit words and its length. Each call takes any words, empty arrays too, always ends, and writes only where
  * it says. The result is the number of the question that refuses, or 0; then *sheet is 1 or 2 for questions 1 to 6, else 0.
- * A pointer must be valid for its length, and arrays must not overlap those that are written. */
+ * A pointer must be valid for its length; NULL is allowed with length 0. Arrays that are written must not overlap others, and the places
+ * for numbers (sheet, kept, count, percent, length, back, unequal) must be valid and distinct, from each other and from the arrays.
+ * Calls keep no state: they are reentrant, and threads may call at once with places of their own. Each needs less than 128 KiB of stack
+ * and no heap; docs/BENCHMARKS.md has the figures. */
 #ifndef TOQSHENAY_H
 #define TOQSHENAY_H
 

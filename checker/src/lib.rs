@@ -14,6 +14,7 @@
 //!   the labelling program prints, and a judge of what the path program prints.
 //! - `explanation`: a judge of what the explaining program prints. `sentence`: the sentence that it says first, read back.
 //! - `text`: sheets as text, and what the program `sheet` prints.
+//! - `files`: what `compare.sh` tells of two files.
 //! - `refusal`: a refusing question and the sheet it was asked of.
 //! - `components`: strong components of a directed graph.
 //! - `worked`: the document's worked sheets and marked cases.
@@ -27,6 +28,7 @@ pub mod compare;
 pub mod components;
 pub mod coverage;
 pub mod explanation;
+pub mod files;
 pub mod generate;
 pub mod labelling;
 pub mod machine;

@@ -165,11 +165,6 @@ fn texts_are_compared() {
     assert!(compare(&text("M1.txt"), &sheet)
         .stdout
         .starts_with(b"equal\n"));
-    let short = folder.join("short.sheet");
-    fs::write(&short, &checker::program::bytes(&worked::m2())[..24]).expect("it can be written");
-    let uncut = compare(&short, &text("M1.txt"));
-    assert_eq!(uncut.status.code(), Some(1));
-    assert!(uncut.stdout.is_empty() && uncut.stderr.ends_with(b"gives 13 words, and it has 12\n"));
     let faulty = folder.join("faulty.txt");
     fs::write(&faulty, "1 1 1\n1 1 one\n1 0\n").expect("it can be written");
     let refused = compare(&text("M1.txt"), &faulty);

@@ -1,7 +1,10 @@
-//! The stack of the entry points: each runs, on the largest input, in a thread with 128 KiB.
+//! The stack of the entry points: each runs, on the largest input, in a thread with 128 KiB. The environment variable STACK_KIB gives
+//! another size, to find how much each needs: a call that needs more ends the process.
 
 mod exports;
 
+use checker::compare;
+use checker::generate::machines::{lay_out, Graph};
 use checker::generate::pairs::{self, Scale};
 use checker::labelling::Labelling;
 use checker::path::{self, Asked};
@@ -10,13 +13,17 @@ use checker::rules::Line;
 use checker::truth::Model;
 use std::thread::Builder;
 
-const STACK: usize = 128 * 1024;
 const SEED: u64 = 0x7374_6163_6b01;
 
-/// Runs the call in a thread with little stack; a call that needs more ends the process.
+fn stack() -> usize {
+    let given = std::env::var("STACK_KIB").map(|kib| kib.parse().expect("a number of KiB"));
+    1024 * given.unwrap_or(128)
+}
+
+/// Runs the call in a thread with little stack.
 fn with_little_stack<T: Send + 'static>(call: impl FnOnce() -> T + Send + 'static) -> T {
     Builder::new()
-        .stack_size(STACK)
+        .stack_size(stack())
         .spawn(call)
         .expect("a thread can be started")
         .join()
@@ -51,4 +58,65 @@ fn a_path_fits() {
         exports::path(&machine, &rules, asked, &mut list)
     });
     assert!(matches!(answer, path::Answer::Shown { .. }), "{answer:?}");
+}
+
+/// A machine with 16 signals that starts at its first node, where the first signal is on at one node alone.
+fn machine(targets: Vec<Vec<usize>>, marked: usize) -> Vec<u16> {
+    let nodes = targets.len();
+    let graph = Graph {
+        signals: 16,
+        labels: (0..nodes).map(|node| u16::from(node == marked)).collect(),
+        starts: (0..nodes).map(|node| node == 0).collect(),
+        targets,
+    };
+    lay_out(&mut Rng::for_case(SEED, 1), &graph).words()
+}
+
+fn ring(nodes: usize, marked: usize) -> Vec<u16> {
+    machine((1..=nodes).map(|next| vec![next % nodes]).collect(), marked)
+}
+
+/// A ring of 64 nodes where some have a second edge, and the same with one edge changed: the rules that tell such machines apart are
+/// the longest that were found.
+fn changed_ring(rng: &mut Rng) -> [Vec<u16>; 2] {
+    let mut targets: Vec<Vec<usize>> = (1..=64).map(|next| vec![next % 64]).collect();
+    for edges in &mut targets {
+        if rng.chance(1, 4) {
+            edges.push(rng.below(64));
+        }
+    }
+    let marked = rng.below(64);
+    let before = machine(targets.clone(), marked);
+    targets[rng.below(64)][0] = rng.below(64);
+    [before, machine(targets, marked)]
+}
+
+/// Compares two machines of 128 nodes in all; gives the number of lines that are written, 0 where none are.
+fn lines_of_a_comparison(first: &[u16], second: &[u16]) -> u16 {
+    let before = vec![0; 33 + 6 * (16 + 7 * 128)];
+    let [one, other, mut space] = [first, second, &before].map(<[u16]>::to_vec);
+    let (answer, space) = with_little_stack(move || {
+        let answer = exports::compare(&one, &other, &mut space);
+        (answer, space)
+    });
+    let judged = compare::judge(first, second, &before, answer, &space);
+    assert_eq!(judged, Ok(()));
+    space[3]
+}
+
+#[test]
+fn a_comparison_fits() {
+    for [first, second] in [
+        [ring(64, 63), ring(64, 63)],
+        [ring(64, 63), ring(64, 62)],
+        [ring(127, 126), ring(1, 0)],
+        [ring(1, 0), ring(127, 126)],
+    ] {
+        lines_of_a_comparison(&first, &second);
+    }
+    let lines = (0..100).map(|case| {
+        let [first, second] = changed_ring(&mut Rng::for_case(SEED, case));
+        lines_of_a_comparison(&first, &second)
+    });
+    assert!(lines.max() > Some(300), "a long rule is written");
 }

@@ -8,10 +8,12 @@
 //! - `pairs`: a machine and a rule, and the spaces that labelling and path write to.
 //! - `machine_pairs`: two machines to compare, and the space for the rule.
 //! - `inputs`: bytes for the programs.
+//! - `files`: pairs of files for `compare.sh`.
 //! - `texts`: texts of decimal words for the program `sheet`.
 
 pub mod chains;
 pub mod damage;
+pub mod files;
 pub mod inputs;
 pub mod limits;
 pub mod machine_pairs;

@@ -1,5 +1,7 @@
 //! The proved functions, as the static library exports them: C calls, where a slice is handed
 //! over as its first word's address and its length. All unsafe code of the package is here.
+//!
+//! An empty slice is handed over as a null pointer, which the header allows.
 
 // Each test file calls its own part of these.
 #![allow(dead_code)]
@@ -8,12 +10,14 @@ use checker::compare;
 use checker::labelling::Labelling;
 use checker::path::{self, Asked, Pair};
 use checker::refusal::Refusal;
+use std::ptr;
 
 /// A place of a list of pairs, as the header declares it.
 #[repr(C)]
-struct Place {
-    node: u16,
-    state: u16,
+#[derive(Clone, Copy)]
+pub struct Place {
+    pub node: u16,
+    pub state: u16,
 }
 
 extern "C" {
@@ -71,16 +75,30 @@ extern "C" {
     ) -> u16;
 }
 
+fn address(words: &[u16]) -> *const u16 {
+    match words {
+        [] => ptr::null(),
+        _ => words.as_ptr(),
+    }
+}
+
+fn place<T>(items: &mut [T]) -> *mut T {
+    match items {
+        [] => ptr::null_mut(),
+        _ => items.as_mut_ptr(),
+    }
+}
+
 /// 0 if the questions 1 to 6 accept the sheet, else the number of the one that refuses it.
 pub fn check_machine(words: &[u16]) -> u16 {
     // SAFETY: the address and the length are those of a slice that lives through the call.
-    unsafe { toqshenay_check_machine(words.as_ptr(), words.len()) }
+    unsafe { toqshenay_check_machine(address(words), words.len()) }
 }
 
 /// 0 if the questions 7 to 15 accept the sheet, else the number of the one that refuses it.
 pub fn check_rules(words: &[u16]) -> u16 {
     // SAFETY: the address and the length are those of a slice that lives through the call.
-    unsafe { toqshenay_check_rules(words.as_ptr(), words.len()) }
+    unsafe { toqshenay_check_rules(address(words), words.len()) }
 }
 
 /// Labels the rules on the machine; the rows go to the space.
@@ -89,11 +107,11 @@ pub fn label(machine: &[u16], rules: &[u16], rows: &mut [u64]) -> Labelling {
     // SAFETY: addresses and lengths are those of slices and numbers that live through the call.
     let question = unsafe {
         toqshenay_label(
-            machine.as_ptr(),
+            address(machine),
             machine.len(),
-            rules.as_ptr(),
+            address(rules),
             rules.len(),
-            rows.as_mut_ptr(),
+            place(rows),
             rows.len(),
             &mut sheet,
             &mut kept,
@@ -127,15 +145,15 @@ fn path_lists(machine: &[u16], rules: &[u16], asked: Asked, list: &mut [Pair]) -
     // SAFETY: addresses and lengths are those of slices and numbers that live through the call.
     let question = unsafe {
         toqshenay_path(
-            machine.as_ptr(),
+            address(machine),
             machine.len(),
-            rules.as_ptr(),
+            address(rules),
             rules.len(),
             word(asked.line),
             word(asked.node),
-            nodes.as_mut_ptr(),
+            place(&mut nodes),
             nodes.len(),
-            states.as_mut_ptr(),
+            place(&mut states),
             states.len(),
             &mut sheet,
             &mut length,
@@ -153,26 +171,37 @@ fn path_pairs(machine: &[u16], rules: &[u16], asked: Asked, list: &mut [Pair]) -
         .iter()
         .map(|&(node, state)| Place { node, state })
         .collect();
+    let answer = path_places(machine, rules, asked, &mut places);
+    for (pair, place) in list.iter_mut().zip(places) {
+        *pair = (place.node, place.state);
+    }
+    answer
+}
+
+/// The call over a list of pairs by itself.
+pub fn path_places(
+    machine: &[u16],
+    rules: &[u16],
+    asked: Asked,
+    places: &mut [Place],
+) -> path::Answer {
     let (mut sheet, mut length, mut back) = (0, 0, 0);
     // SAFETY: addresses and lengths are those of slices and numbers that live through the call.
     let question = unsafe {
         toqshenay_path_pairs(
-            machine.as_ptr(),
+            address(machine),
             machine.len(),
-            rules.as_ptr(),
+            address(rules),
             rules.len(),
             word(asked.line),
             word(asked.node),
-            places.as_mut_ptr(),
+            place(places),
             places.len(),
             &mut sheet,
             &mut length,
             &mut back,
         )
     };
-    for (pair, place) in list.iter_mut().zip(places) {
-        *pair = (place.node, place.state);
-    }
     path_answer(question, sheet, length, back)
 }
 
@@ -197,11 +226,11 @@ pub fn compare(first: &[u16], second: &[u16], space: &mut [u16]) -> compare::Ans
     // SAFETY: addresses and lengths are those of slices and numbers that live through the call.
     let question = unsafe {
         toqshenay_compare(
-            first.as_ptr(),
+            address(first),
             first.len(),
-            second.as_ptr(),
+            address(second),
             second.len(),
-            space.as_mut_ptr(),
+            place(space),
             space.len(),
             &mut sheet,
             &mut unequal,
