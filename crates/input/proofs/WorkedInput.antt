@@ -1,6 +1,6 @@
 -- What the definitions come to: words written low byte first are read back, two sheets one after the other are cut apart, and worked
 -- input and lines.
-use mathlib.Core.Path.{_≡_, refl, sym, _∙_}
+use mathlib.Core.Path.{_≡_, refl, sym, ap, _∙_}
 use Prim.Native.Nat.{ℕ, _+_, _*_, _/_, _%_, _<_, _≤_}
 use native.Mathlib.Omega.{arith}
 use mathlib.Core.List.{List, [], _∷_, _++_}
@@ -16,8 +16,7 @@ use Rattle.sheets.proofs.Search.{le-or-gt}
 use Rattle.input.specs.Bytes.{wordOf, wordsOf, bytesOf}
 use Rattle.input.specs.Cut.{headerEnd, firstEnd, firstSheet, secondSheet}
 use Rattle.text.specs.Decimals.{digits, decimal}
-use Rattle.input.specs.Lines.{lineBytes}
-use Rattle.input.specs.declared.line.Said.the-variants.{Refused}
+use Rattle.input.specs.Lines.{refusedLine}
 use Rattle.input.proofs.Cuts.{end-by-header}
 
 pub read-back : (words : List ℕ) → wordsOf (bytesOf words) ≡ words
@@ -26,6 +25,13 @@ read-back [] = refl
 read-back (w ∷ ws) =
     let e : w % 256 + 256 * (w / 256) ≡ w = omega arith in
     rw (e, read-back ws)
+
+-- the words of bytes one after the other, where the first are even in number
+pub words-joined : (first second : List ℕ) → length first % 2 ≡ 0 → wordsOf (first ++ second) ≡ wordsOf first ++ wordsOf second
+unfolding wordsOf
+words-joined [] second even = refl
+words-joined (low ∷ []) second even = absurd (omega arith)
+words-joined (low ∷ high ∷ first) second even = ap (_∷_ (wordOf low high)) (words-joined first second (omega arith))
 
 -- a first sheet to which questions 1 and 2 say yes, and any second
 module _ (first second : List ℕ) (one : q1 first ≡ true) (two : q2 first ≡ true) where
@@ -79,9 +85,9 @@ pub record InputCases : Type 0 where
   pub case-a-first : firstSheet (wordsOf (bytesOf (M1 ++ M2))) ≡ M1
   pub case-a-second : secondSheet (wordsOf (bytesOf (M1 ++ M2))) ≡ M2
   -- `refused 5 1`, and `refused 22 0`
-  pub five : lineBytes (Refused 5 1) ≡ 114 ∷ 101 ∷ 102 ∷ 117 ∷ 115 ∷ 101 ∷ 100 ∷ 32 ∷ 53 ∷ 32 ∷ 49 ∷ 10 ∷ []
-  pub two : lineBytes (Refused 22 0) ≡ 114 ∷ 101 ∷ 102 ∷ 117 ∷ 115 ∷ 101 ∷ 100 ∷ 32 ∷ 50 ∷ 50 ∷ 32 ∷ 48 ∷ 10 ∷ []
+  pub five : refusedLine 5 1 ≡ 114 ∷ 101 ∷ 102 ∷ 117 ∷ 115 ∷ 101 ∷ 100 ∷ 32 ∷ 53 ∷ 32 ∷ 49 ∷ 10 ∷ []
+  pub two : refusedLine 22 0 ≡ 114 ∷ 101 ∷ 102 ∷ 117 ∷ 115 ∷ 101 ∷ 100 ∷ 32 ∷ 50 ∷ 50 ∷ 32 ∷ 48 ∷ 10 ∷ []
 
 pub input-cases : InputCases
-unfolding lineBytes decimal digits bytesOf wordsOf wordOf firstSheet secondSheet firstEnd headerEnd q1 nodes signals edges word within
+unfolding refusedLine decimal digits bytesOf wordsOf wordOf firstSheet secondSheet firstEnd headerEnd q1 nodes signals edges word within
 input-cases = record { case-a-first = refl; case-a-second = refl; five = refl; two = refl }

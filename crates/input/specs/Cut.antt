@@ -1,11 +1,15 @@
 -- Where the first sheet ends. Document 01: "the first sheet's header gives its end, if question 1 says yes and the words reach that
 -- far, else all words are the first sheet and the second is empty".
-use Prim.Native.Nat.{ℕ, _+_, _*_}
+use mathlib.Core.Path.{_≡_}
+use Prim.Native.Nat.{ℕ, _+_, _-_, _*_, _≤_}
 use mathlib.Core.List.{List}
-use mathlib.Core.Bool.{cond, _&&_}
+use mathlib.Core.Bool.{true, false, cond, _&&_}
 use lib.ListN.{length, take, drop}
 use lib.Dec.{leb}
 use Rattle.sheets.specs.Machine.{nodes, edges, q1}
+use Rattle.input.specs.Bytes.{readable, wordsOf}
+use Rattle.input.specs.declared.cut.Cut.{Cut}
+use Rattle.input.specs.declared.cut.Cut.the-variants.{Unreadable, Sheets}
 
 -- "the first sheet's header gives its end": the length that question 2 asks for
 unfoldable pub headerEnd : List ℕ → ℕ
@@ -25,3 +29,17 @@ firstSheet words = take (firstEnd words) words
 unfoldable pub secondSheet : List ℕ → List ℕ
 unfolding firstEnd
 secondSheet words = drop (firstEnd words) words
+
+-- the two sheets of words that stand at the head of lent ones, the second up to a place
+pub record Stand (words lent : List ℕ) (end count : ℕ) : Type 0 where
+  pub ordered : end ≤ count
+  pub within : count ≤ length lent
+  pub first : take end lent ≡ firstSheet words
+  pub second : take (count - end) (drop end lent) ≡ secondSheet words
+
+-- The bytes of standard input as two sheets in lent words. An odd number of bytes, or more than two for each word, is not readable, and
+-- then the words are as before.
+pub record TwoSheets (bytes before after : List ℕ) (cut : Cut) : Type 0 where
+  pub unreadable : readable (2 * length before) (length bytes) ≡ false → (cut ≡ Unreadable) × (after ≡ before)
+  pub sheets : readable (2 * length before) (length bytes) ≡ true
+      → (end : ℕ) × (count : ℕ) × (cut ≡ Sheets end count) × Stand (wordsOf bytes) after end count
