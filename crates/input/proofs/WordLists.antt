@@ -48,7 +48,7 @@ words-all bytes before after n room counted e =
     let all : length (wordsOf bytes) ≡ n = omega arith in
     rw (e, take-all n (wordsOf bytes) (omega arith)) (take-at (wordsOf bytes) (drop n before) n all)
 
-pub readable-most : (most count : ℕ) → readable most count ≡ true → count ≤ most
+readable-most : (most count : ℕ) → readable most count ≡ true → count ≤ most
 unfolding readable
 readable-most most count ok = leb→le count most (and-left (leb count most) (eqb (count % 2) 0) (subst⁻¹ T ok tt))
 

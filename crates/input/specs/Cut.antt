@@ -1,7 +1,7 @@
 -- Where the first sheet ends. Document 01: "the first sheet's header gives its end, if question 1 says yes and the words reach that
 -- far, else all words are the first sheet and the second is empty".
 use mathlib.Core.Path.{_≡_}
-use Prim.Native.Nat.{ℕ, _+_, _-_, _*_, _≤_}
+use Prim.Native.Nat.{ℕ, _+_, _*_, _≤_}
 use mathlib.Core.List.{List}
 use mathlib.Core.Bool.{true, false, cond, _&&_}
 use lib.ListN.{length, take, drop}
@@ -30,16 +30,15 @@ unfoldable pub secondSheet : List ℕ → List ℕ
 unfolding firstEnd
 secondSheet words = drop (firstEnd words) words
 
--- the two sheets of words that stand at the head of lent ones, the second up to a place
+-- words that stand at the head of lent ones, up to one place, with the first sheet up to another
 pub record Stand (words lent : List ℕ) (end count : ℕ) : Type 0 where
-  pub ordered : end ≤ count
+  pub whole : take count lent ≡ words
   pub within : count ≤ length lent
-  pub first : take end lent ≡ firstSheet words
-  pub second : take (count - end) (drop end lent) ≡ secondSheet words
+  pub cut : end ≡ firstEnd words
+  pub ordered : end ≤ count
 
 -- The bytes of standard input as two sheets in lent words. An odd number of bytes, or more than two for each word, is not readable, and
 -- then the words are as before.
-pub record TwoSheets (bytes before after : List ℕ) (cut : Cut) : Type 0 where
-  pub unreadable : readable (2 * length before) (length bytes) ≡ false → (cut ≡ Unreadable) × (after ≡ before)
-  pub sheets : readable (2 * length before) (length bytes) ≡ true
-      → (end : ℕ) × (count : ℕ) × (cut ≡ Sheets end count) × Stand (wordsOf bytes) after end count
+unfoldable pub TwoSheets : List ℕ → List ℕ → List ℕ → Cut → Type 0
+TwoSheets bytes before after Unreadable = (readable (2 * length before) (length bytes) ≡ false) × (after ≡ before)
+TwoSheets bytes before after (Sheets end count) = (readable (2 * length before) (length bytes) ≡ true) × Stand (wordsOf bytes) after end count

@@ -1,0 +1,2 @@
+-- The laws of the comparing program.
+pub mod Comparing
