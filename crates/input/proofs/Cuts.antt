@@ -9,7 +9,7 @@ use lib.Seq.{take-all, length-take-le}
 use borrow.Author.Tests.{le-leb, lt-leb}
 use Rattle.sheets.specs.Machine.{q1}
 use Rattle.input.specs.Bytes.{readable, wordsOf}
-use Rattle.input.specs.Cut.{headerEnd, firstEnd, firstSheet, secondSheet, Stand, TwoSheets}
+use Rattle.input.specs.Cut.{headerEnd, firstEnd, firstSheet, secondSheet, Stand, TwoSheets, unreadable, sheets}
 use Rattle.input.specs.declared.cut.Cut.{Cut}
 use Rattle.input.specs.declared.cut.Cut.the-variants.{Unreadable, Sheets}
 use Rattle.input.proofs.WordLists.{words-whole}
@@ -40,42 +40,52 @@ module _ (words : List ℕ) (end : ℕ) (e : end ≡ firstEnd words) where
 -- ---- the two sheets of bytes in lent words
 
 module _ (bytes before : List ℕ) where
-  pub not-taken : readable (2 * length before) (length bytes) ≡ false → TwoSheets bytes before before Unreadable
-  unfolding TwoSheets
-  not-taken other = (other, refl)
-
   pub two-sheets : readable (2 * length before) (length bytes) ≡ true → (after : List ℕ) (count end : ℕ)
       → count ≡ min (length bytes / 2) (length before) → after ≡ take count (wordsOf bytes) ++ drop count before → length after ≡ length before
       → end ≡ firstEnd (take count after) → end ≤ length (take count after) → TwoSheets bytes before after (Sheets end count)
-  unfolding TwoSheets
   two-sheets ok after count end counted is size cut reached =
       let whole : take count after ≡ wordsOf bytes = words-whole (2 * length before) bytes before after count ok (omega arith) counted is in
       let within : count ≤ length after = omega arith in
-      (ok, record { whole = whole; within = within; cut = rw whole at cut; ordered = omega (arith, length-take-le count after within) })
+      sheets ok (record { whole = whole; within = within; cut = rw whole at cut; ordered = omega (arith, length-take-le count after within) })
 
--- what a caller knows in each case
-module _ (bytes before after : List ℕ) (cut : Cut) (h : TwoSheets bytes before after cut) (room : ℕ) (size : length before ≡ room) where
-  pub refused : cut ≡ Unreadable → (readable (2 * room) (length bytes) ≡ false) × (after ≡ before)
-  unfolding TwoSheets
-  refused e = rw size at (rw e at h)
+-- ---- what a caller knows of them, with space for so many words: the bytes are not taken, or they are, and what it lends are the two sheets
 
-  pub taken : (end count : ℕ) → cut ≡ Sheets end count → (readable (2 * room) (length bytes) ≡ true) × Stand (wordsOf bytes) after end count
-  unfolding TwoSheets
-  taken end count e = rw size at (rw e at h)
+refused : {bytes before after : List ℕ} → TwoSheets bytes before after Unreadable
+    → (readable (2 * length before) (length bytes) ≡ false) × (after ≡ before)
+refused (unreadable e) = (e, refl)
 
--- what a caller lends of them: the words, and the two parts of these
-module _ (words lent : List ℕ) (end count : ℕ) (s : Stand words lent end count) where
-  pub whole-length : count ≡ length (take count lent)
-  whole-length = sym (length-take-le count lent (s .within))
+stands : {bytes before after : List ℕ} {end count : ℕ} → TwoSheets bytes before after (Sheets end count)
+    → (readable (2 * length before) (length bytes) ≡ true) × Stand (wordsOf bytes) after end count
+stands (sheets e s) = (e, s)
 
-  pub end-reached : end ≤ length (take count lent)
-  end-reached = let size = whole-length in omega (arith, s .ordered)
+module _ {bytes before after : List ℕ} {cut : Cut} (h : TwoSheets bytes before after cut) (room : ℕ) (size : length before ≡ room) where
+  pub not-readable : cut ≡ Unreadable → (readable (2 * room) (length bytes) ≡ false) × (after ≡ before)
+  not-readable e = rw size at (refused (rw e at h))
 
-  pub first-length : end ≡ length (take end (take count lent))
-  first-length = sym (length-take-le end (take count lent) end-reached)
+  pub taken : {end count : ℕ} → cut ≡ Sheets end count → readable (2 * room) (length bytes) ≡ true
+  taken e = rw size at (stands (rw e at h) .0)
 
-  pub first-lent : take end (take count lent) ≡ firstSheet words
-  first-lent = rw (s .whole) (first-part words end (s .cut))
+module _ {bytes before after : List ℕ} {cut : Cut} {end count : ℕ} (h : TwoSheets bytes before after cut) (e : cut ≡ Sheets end count) where
+  stand : Stand (wordsOf bytes) after end count
+  stand = stands (rw e at h) .1
 
-  pub second-lent : take (length (take count lent) - end) (drop end (take count lent)) ≡ secondSheet words
-  second-lent = rw (s .whole) (second-part words end (s .cut))
+  pub within : count ≤ length after
+  within = stand .within
+
+  pub whole-length : count ≡ length (take count after)
+  whole-length = sym (length-take-le count after within)
+
+  pub end-reached : end ≤ length (take count after)
+  end-reached = let size = whole-length in omega (arith, stand .ordered)
+
+  pub end-within : end ≤ length after
+  end-within = omega (arith, stand .ordered, within)
+
+  pub first-length : end ≡ length (take end (take count after))
+  first-length = sym (length-take-le end (take count after) end-reached)
+
+  pub first-lent : take end (take count after) ≡ firstSheet (wordsOf bytes)
+  first-lent = rw (stand .whole) (first-part (wordsOf bytes) end (stand .cut))
+
+  pub second-lent : take (length (take count after) - end) (drop end (take count after)) ≡ secondSheet (wordsOf bytes)
+  second-lent = rw (stand .whole) (second-part (wordsOf bytes) end (stand .cut))

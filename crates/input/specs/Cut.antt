@@ -39,6 +39,7 @@ pub record Stand (words lent : List ℕ) (end count : ℕ) : Type 0 where
 
 -- The bytes of standard input as two sheets in lent words. An odd number of bytes, or more than two for each word, is not readable, and
 -- then the words are as before.
-unfoldable pub TwoSheets : List ℕ → List ℕ → List ℕ → Cut → Type 0
-TwoSheets bytes before after Unreadable = (readable (2 * length before) (length bytes) ≡ false) × (after ≡ before)
-TwoSheets bytes before after (Sheets end count) = (readable (2 * length before) (length bytes) ≡ true) × Stand (wordsOf bytes) after end count
+pub data TwoSheets (bytes before : List ℕ) : List ℕ → Cut → Type 0 where
+  unreadable : readable (2 * length before) (length bytes) ≡ false → TwoSheets bytes before before Unreadable
+  sheets : {after : List ℕ} {end count : ℕ} → readable (2 * length before) (length bytes) ≡ true → Stand (wordsOf bytes) after end count
+      → TwoSheets bytes before after (Sheets end count)

@@ -4,7 +4,7 @@ use Prim.Native.Nat.{ℕ, suc, _+_, _-_, _≤_, _<_}
 use native.Mathlib.Omega.{arith}
 use mathlib.Core.List.{List, [], _∷_, _++_, append-assoc, append-nil}
 use lib.ListN.{length, replicate, set, take, length-append, length-replicate}
-use lib.Seq.{set-append-seam, length-take-le}
+use lib.Seq.{set-append-seam, length-take-le, take-append-seam}
 use borrow.Author.Tests.{lt-ltb, le-ltb}
 use Rattle.text.specs.declared.line.Line.{Line}
 use Rattle.text.specs.Lines.{Holds, withByte, withBytes, Adds}
@@ -48,6 +48,10 @@ holds-added before after text [] h is room = rw (is, append-nil) h
 holds-added before after text (byte ∷ more) h is room =
     rw (← append-assoc text (byte ∷ []) more)
     (holds-added (withByte before byte) after (text ++ (byte ∷ [])) more (holds-more before text byte h (omega arith)) is (simp length-append (omega arith)))
+
+-- the bytes at the head of a line's array, as many as it has, are its text
+pub held-text : (line : Line) (text : List ℕ) → Holds line text → take (line .len) (line .bytes) ≡ text
+held-text line text h = rw (h .len, h .bytes) (take-append-seam text (replicate (20 - length text) 0))
 
 -- the text of a line is a part of its array
 pub line-part : (line : Line) (text : List ℕ) → Holds line text → (line .len ≤ length (line .bytes)) × (line .len ≡ length (take (line .len) (line .bytes)))

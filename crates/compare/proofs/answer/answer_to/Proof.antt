@@ -1,7 +1,7 @@
 -- `answer_to` meets its contract: the two parts that it lends are the two sheets of the bytes.
 use mathlib.Core.Path.{refl}
 use native.Mathlib.Omega.{arith}
-use Rattle.input.proofs.Cuts.{refused, taken, whole-length, end-reached, first-length, first-lent, second-lent}
+use Rattle.input.proofs.Cuts.{not-readable, taken, within, whole-length, end-reached, end-within, first-length, first-lent, second-lent}
 use Rattle.compare.proofs.Comparing.{unread, read}
 use borrow.Author.Needs.{needs}
 use Rattle.compare.proofs.answer.answer_to.Statement.{statement}
@@ -20,34 +20,22 @@ enum-known-cut : tie.Need-enum-known-cut
 enum-known-cut c = search needs
 
 array-share-prefix-words : tie.Need-array-share-prefix-words
-array-share-prefix-words c =
-    let known = taken _ _ _ _ (c .before .before .before .before .sheets-of .ensures) 10000 refl _ _ (c .before .cut .given .1) in
-    known .1 .within
+array-share-prefix-words c = within (c .before .before .before .before .sheets-of .ensures) (c .before .cut .given .1)
 
 slice-aggregate-both : tie.Need-slice-aggregate-both
-slice-aggregate-both c =
-    let known = taken _ _ _ _ (c .before .before .before .before .before .sheets-of .ensures) 10000 refl _ _ (c .before .before .cut .given .1) in
-    whole-length _ _ _ _ (known .1)
+slice-aggregate-both c = whole-length (c .before .before .before .before .before .sheets-of .ensures) (c .before .before .cut .given .1)
 
 slice-aggregate-compare-sheets : tie.Need-slice-aggregate-compare-sheets
-slice-aggregate-compare-sheets c =
-    let known = taken _ _ _ _ (c .before .before .before .before .before .before .sheets-of .ensures) 10000 refl _ _ (c .before .before .before .cut .given .1) in
-    first-length _ _ _ _ (known .1)
+slice-aggregate-compare-sheets c = let at = c .before .before .before in first-length (at .before .before .before .sheets-of .ensures) (at .cut .given .1)
 
 mul-compare-sheets : tie.Need-mul-compare-sheets
-mul-compare-sheets c =
-    let known = taken _ _ _ _ (c .before .before .before .before .before .before .sheets-of .ensures) 10000 refl _ _ (c .before .before .before .cut .given .1) in
-    omega (arith, known .1 .ordered, known .1 .within)
+mul-compare-sheets c = let at = c .before .before .before in omega (arith, end-within (at .before .before .before .sheets-of .ensures) (at .cut .given .1))
 
 sub-compare-sheets : tie.Need-sub-compare-sheets
-sub-compare-sheets c =
-    let known = taken _ _ _ _ (c .before .before .before .before .before .before .sheets-of .ensures) 10000 refl _ _ (c .before .before .before .cut .given .1) in
-    end-reached _ _ _ _ (known .1)
+sub-compare-sheets c = let at = c .before .before .before in end-reached (at .before .before .before .sheets-of .ensures) (at .cut .given .1)
 
 part-compare-sheets-start : tie.Need-part-compare-sheets-start
-part-compare-sheets-start c =
-    let known = taken _ _ _ _ (c .before .before .before .before .before .before .sheets-of .ensures) 10000 refl _ _ (c .before .before .before .cut .given .1) in
-    end-reached _ _ _ _ (known .1)
+part-compare-sheets-start c = let at = c .before .before .before in end-reached (at .before .before .before .sheets-of .ensures) (at .cut .given .1)
 
 part-compare-sheets-end : tie.Need-part-compare-sheets-end
 part-compare-sheets-end c = search needs
@@ -56,12 +44,14 @@ compare-sheets-requires : tie.Need-compare-sheets-requires
 compare-sheets-requires c κs = search needs
 
 returns : tie.Need-returns
-returns c = unread _ (refused _ _ _ _ (c .before .before .before .sheets-of .ensures) 10000 refl (c .enum-told .given .1) .0)
+returns c = unread _ (not-readable (c .before .before .before .sheets-of .ensures) 10000 refl (c .enum-told .given .1) .0)
 
 returns-2 : tie.Need-returns-2
 returns-2 c =
-    let known = taken _ _ _ _ (c .before .before .before .before .before .before .before .before .sheets-of .ensures) 10000 refl _ _ (c .before .before .before .before .before .cut .given .1) in
-    read _ (known .0) _ (rw (← first-lent _ _ _ _ (known .1), ← second-lent _ _ _ _ (known .1)) (c .compare-sheets .ensures))
+    let at = c .before .before .before .before .before in
+    let got = at .before .before .before .sheets-of .ensures in
+    let is = at .cut .given .1 in
+    read _ (taken got 10000 refl is) _ (rw (← first-lent got is, ← second-lent got is) (c .compare-sheets .ensures))
 
 pub answer-to-spec : {M : Type 1} → statement M
 answer-to-spec =

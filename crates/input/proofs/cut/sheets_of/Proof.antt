@@ -1,11 +1,11 @@
 -- `sheets_of` meets its contract: the words at the head are all those of the bytes, cut where the first sheet ends.
 use mathlib.Core.Path.{sym, _∙_}
 use Prim.Native.Nat.{_≤_}
-use native.Mathlib.Omega.{arith}
 use lib.ListN.{length}
 use lib.Seq.{length-take-le}
 use borrow.Author.Tests.{not-true, not-false}
-use Rattle.input.proofs.Cuts.{not-taken, two-sheets}
+use Rattle.input.specs.Cut.{unreadable}
+use Rattle.input.proofs.Cuts.{two-sheets}
 use borrow.Author.Needs.{needs}
 use Rattle.input.proofs.cut.sheets_of.Statement.{statement}
 use Rattle.input.proofs.cut.sheets_of.Tie as tie
@@ -17,9 +17,7 @@ readable-requires : tie.Need-readable-requires
 readable-requires c κs = search needs
 
 returns : tie.Need-returns
-returns c =
-    let start = c .before .before .before .before in
-    not-taken (start .args .input .now) (start .args .words .now) (sym (c .before .readable .ensures) ∙ not-true _ (c .if1 .taken))
+returns c = unreadable (sym (c .before .readable .ensures) ∙ not-true _ (c .if1 .taken))
 
 words-of-requires : tie.Need-words-of-requires
 words-of-requires c κs = search needs
