@@ -1,0 +1,2 @@
+-- The laws of the program for one sheet.
+pub mod SameWords
