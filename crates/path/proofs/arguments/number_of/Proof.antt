@@ -39,7 +39,7 @@ returns-3 c =
     let at = c .before .before .before .before .before in
     let bytes = at .before .before .before .args .bytes .now in
     let digit = c .before .before .wide in
-    too-high bytes (at .loop .value) (at .loop .i) (at .loop .inv .2) (search needs) (digit .result) (digit .ensures .0) (c .before .if2 .left) (c .if3 .taken)
+    too-high bytes (at .loop .value) (at .loop .i) (at .loop .inv .2) (search needs) (digit .result) (digit .ensures .0) (c .before .if2 .left) (search needs)
 
 mul-more : tie.Need-mul-more Inv-loop μ-loop
 mul-more c = search needs
