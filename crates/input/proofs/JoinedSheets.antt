@@ -101,7 +101,7 @@ module _ (first second : List ℕ) (even₁ : length first % 2 ≡ 0) (even₂ :
   joined-readable =
       let size = length-append first second in
       let few : length (first ++ second) ≤ 20000 =
-          omega (arith, words-length first, words-length second, longest (wordsOf first) ok₁, longest (wordsOf second) ok₂) in
+      omega (arith, words-length first, words-length second, longest (wordsOf first) ok₁, longest (wordsOf second) ok₂) in
       let even : length (first ++ second) % 2 ≡ 0 = omega arith in
       rw (le-leb (length (first ++ second)) 20000 few, eq-eqb (length (first ++ second) % 2) 0 even)
 

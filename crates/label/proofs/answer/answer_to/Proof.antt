@@ -44,7 +44,7 @@ label-sheets-requires : tie.Need-label-sheets-requires
 label-sheets-requires c κs = search needs
 
 returns : tie.Need-returns
-returns c = 
+returns c =
     let unread = not-readable (c .before .before .before .sheets-of .ensures) 14503 refl (c .enum-told .given .1) .0 in
     record { refused = λ e. (refl, refl); labelled = λ e. absurd (true≢false (sym e ∙ unread)) }
 
@@ -52,7 +52,7 @@ same-length : tie.Need-same-length
 same-length c = search needs
 
 returns-2 : tie.Need-returns-2
-returns-2 c = 
+returns-2 c =
     let after = c .before .before in
     let at = after .before .before .before .before .before .before in
     let got = at .before .before .before .sheets-of .ensures in

@@ -44,7 +44,7 @@ path-lists-requires : tie.Need-path-lists-requires
 path-lists-requires c κs = search needs
 
 returns : tie.Need-returns
-returns c = 
+returns c =
     let unread = not-readable (c .before .before .before .sheets-of .ensures) 14503 refl (c .enum-told .given .1) .0 in
     record { refused = λ e. (refl, refl, refl); shown = λ e. absurd (true≢false (sym e ∙ unread)) }
 
@@ -55,7 +55,7 @@ same-length-2 : tie.Need-same-length-2
 same-length-2 c = search needs
 
 returns-2 : tie.Need-returns-2
-returns-2 c = 
+returns-2 c =
     let after = c .before .before .before .before in
     let at = after .before .before .before .before .before .before .before in
     let got = at .before .before .before .sheets-of .ensures in

@@ -24,7 +24,7 @@ enum-told c = search needs
 
 returns-2 : tie.Need-returns-2
 unfolding askedOf both
-returns-2 c = 
+returns-2 c =
     let three = eq-eqb (c .before .before .before .before .before .before .before .args .count) 3 (c .before .before .before .before .if1 .left) in
     rw (three, sym (c .before .before .before .number-of .ensures) ∙ c .enum-told .given .1)
 
@@ -36,13 +36,13 @@ enum-told-2 c = search needs
 
 returns-3 : tie.Need-returns-3
 unfolding askedOf both
-returns-3 c = 
+returns-3 c =
     let three = eq-eqb (c .before .before .before .before .before .before .before .before .before .before .args .count) 3 (c .before .before .before .before .before .before .before .if1 .left) in
     rw (three, sym (c .before .before .before .before .before .before .number-of .ensures) ∙ c .before .before .before .line .given .1, sym (c .before .before .before .before .before .number-of2 .ensures) ∙ c .enum-told2 .given .1)
 
 returns-4 : tie.Need-returns-4
 unfolding askedOf both
-returns-4 c = 
+returns-4 c =
     let three = eq-eqb (c .before .before .before .before .before .before .before .before .before .before .before .args .count) 3 (c .before .before .before .before .before .before .before .before .if1 .left) in
     rw (three, sym (c .before .before .before .before .before .before .before .number-of .ensures) ∙ c .before .before .before .before .line .given .1, sym (c .before .before .before .before .before .before .number-of2 .ensures) ∙ c .before .node .given .1)
 

@@ -28,14 +28,14 @@ wide-requires : tie.Need-wide-requires Inv-loop μ-loop
 wide-requires c κs = search needs
 
 returns-2 : tie.Need-returns-2 Inv-loop μ-loop
-returns-2 c = 
+returns-2 c =
     let at = c .before .before .before .before in
     let bytes = at .before .before .before .args .bytes .now in
     let digit = c .before .wide in
     too-low bytes (at .loop .value) (at .loop .i) (at .loop .inv .2) (search needs) (digit .result) (digit .ensures .0) (c .if2 .taken)
 
 returns-3 : tie.Need-returns-3 Inv-loop μ-loop
-returns-3 c = 
+returns-3 c =
     let at = c .before .before .before .before .before in
     let bytes = at .before .before .before .args .bytes .now in
     let digit = c .before .before .wide in
@@ -48,7 +48,7 @@ add-more : tie.Need-add-more Inv-loop μ-loop
 add-more c = search needs
 
 returns-4 : tie.Need-returns-4 Inv-loop μ-loop
-returns-4 c = 
+returns-4 c =
     let at = c .before .before .before .before .before .before in
     let bytes = at .before .before .before .args .bytes .now in
     let digit = c .before .before .before .wide in
@@ -61,7 +61,7 @@ loop-less : tie.Need-loop-less Inv-loop μ-loop
 loop-less c = search needs
 
 loop-again : tie.Need-loop-again Inv-loop μ-loop
-loop-again c = 
+loop-again c =
     let at = c .before .before .before .before .before .before in
     let bytes = at .before .before .before .args .bytes .now in
     let digit = c .before .before .before .wide in

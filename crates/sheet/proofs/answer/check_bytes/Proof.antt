@@ -38,13 +38,13 @@ check-words-requires : tie.Need-check-words-requires
 check-words-requires c κs = search needs
 
 returns-2 : tie.Need-returns-2
-returns-2 c = 
+returns-2 c =
     let got = c .before .before .before .words-of in
     let test = c .before .before .before .before .before in
     let bytes = test .before .before .before .args .sheet .now in
     let ok : readable 29006 (length bytes) ≡ true = sym (test .before .readable .ensures) ∙ not-false _ (test .if1 .left) in
     let whole : take (got .result) (got .last .1 .0) ≡ wordsOf bytes =
-        words-whole 29006 bytes _ (got .last .1 .0) (got .result) ok (omega arith) (got .ensures .0) (got .ensures .1) in
+    words-whole 29006 bytes _ (got .last .1 .0) (got .result) ok (omega arith) (got .ensures .0) (got .ensures .1) in
     Program.words ok (rw whole at (c .check-words .ensures))
 
 pub check-bytes-spec : {M : Type 1} → statement M

@@ -38,13 +38,13 @@ enum-known-reading-2 : tie.Need-enum-known-reading-2
 enum-known-reading-2 c = search needs
 
 returns-2 : tie.Need-returns-2
-returns-2 c = 
+returns-2 c =
     let read = c .before .before .before .before .before .before .words-of-text in
     let got = got-words _ _ _ _ (sym (c .before .before .before .reading .given .1) ∙ read .ensures .0) (read .ensures .1) (read .kept .1 .0) in
     Program.words (c .before .before .before .before .before .before .before .before .if1 .left) (got .is) (rw (got .head) at (c .check-words .ensures))
 
 returns-3 : tie.Need-returns-3
-returns-3 c = 
+returns-3 c =
     let faulty = got-fault _ _ _ (sym (c .before .reading2 .given .1) ∙ c .before .before .before .before .words-of-text .ensures .0) in
     Program.fault (c .before .before .before .before .before .before .if1 .left) faulty
 

@@ -16,7 +16,7 @@ returns c = rw (eq-eqb (c .before .before .before .before .args .count) 2 (c .be
 
 returns-2 : tie.Need-returns-2
 unfolding askedOf
-returns-2 c = 
+returns-2 c =
     let count = c .before .before .before .before .args .count in
     rw (ne-eqb count 2 (c .before .if1 .left), ne-eqb count 3 (c .if2 .taken))
 
@@ -28,7 +28,7 @@ same-requires c κs = search needs
 
 returns-3 : tie.Need-returns-3
 unfolding askedOf
-returns-3 c = 
+returns-3 c =
     let count = c .before .before .before .before .before .before .before .args .count in
     let other = is-same _ _ _ (c .before .same .ensures) ∙ not-true _ (c .if3 .taken) in
     rw (ne-eqb count 2 (c .before .before .before .before .if1 .left), eq-eqb count 3 (c .before .before .before .if2 .left), other)
@@ -38,7 +38,7 @@ check-of-requires c κs = search needs
 
 returns-4 : tie.Need-returns-4
 unfolding askedOf
-returns-4 c = 
+returns-4 c =
     let count = c .before .before .before .before .before .before .before .before .args .count in
     let text = is-same _ _ _ (c .before .before .same .ensures) ∙ not-false _ (c .before .if3 .left) in
     rw (ne-eqb count 2 (c .before .before .before .before .before .if1 .left), eq-eqb count 3 (c .before .before .before .before .if2 .left), text)

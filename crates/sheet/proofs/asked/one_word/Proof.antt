@@ -31,7 +31,7 @@ check-of-requires c κs = search needs
 
 returns-3 : tie.Need-returns-3
 unfolding alone
-returns-3 c = 
+returns-3 c =
     rw (is-same _ _ _ (c .before .before .before .before .before .same .ensures) ∙ c .before .before .before .before .if1 .left, is-same _ _ _ (c .before .before .same2 .ensures) ∙ c .before .if2 .left)
     (c .check-of .ensures)
 
