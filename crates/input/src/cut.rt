@@ -14,7 +14,7 @@ pub enum Cut {
 }
 
 // How many words the header gives the sheet.
-pub fn header_end(words: &[u16]) -> usize
+fn header_end(words: &[u16]) -> usize
     ensures { λ r. ⌜ r ≡ headerEnd (now (words .entry)) ⌝ }
 {
     3 + 3 * (machine::nodes(words) as usize) + 2 * (machine::edges(words) as usize)
