@@ -1,9 +1,11 @@
 #!/usr/bin/env bash
 # compare.sh FIRST SECOND: compares two machine sheets. A file whose name ends in .txt is text: decimal words, blanks, `#` comments; any
 # other is 16-bit words, low byte first.
-# Prints `equal`, `unequal`, or `refused Q S`, the refusing question's number and its sheet, and then the same in words; where the two
-# are unequal, the rule that tells them apart, as a sentence and line by line. What is wrong with a text goes to standard error as
-# `FILE: line L, column C: ..`, and the exit status is 1; so it is with a first file that is not as long as its header says.
+# Each file is checked by itself first. One that is no accepted machine sheet is named, `FILE: refused Q S`, with the refusing question's
+# number and 1 for the only sheet, or 0 0 for an odd number of bytes or too many, and then the same in words; the exit status is 1.
+# Of two accepted sheets it prints `equal`, `unequal`, or `refused Q S`, and then the same in words; where the two are unequal, the rule
+# that tells them apart, as a sentence and line by line. What is wrong with a text goes to standard error as `FILE: line L, column C: ..`, and the exit
+# status is 1.
 set -eu
 if [ $# -ne 2 ]; then
   echo "usage: compare.sh FIRST SECOND" >&2
@@ -29,23 +31,18 @@ bytes_of() { # FILE OUT
     *) cat -- "$1" > "$2" ;;
   esac
 }
+accepted() { # FILE BYTES
+  told=$("$here/target/bin/sheet" machine < "$2")
+  if [ "$told" != accepted ]; then
+    printf '%s: %s\n' "$1" "$told"
+    exit 1
+  fi
+}
 bytes_of "$1" "$work/first"
 bytes_of "$2" "$work/second"
-# The programs cut their input where the first sheet's header says that it ends, if the header is in range. A first file of another
-# length would be cut elsewhere.
-read -r nodes signals edges _ <<HEADER
-$(od -An -v --endian=little -t u2 -N 6 "$work/first") 0 0 0
-HEADER
-given=$((3 + 3 * nodes + 2 * edges)) has=$(($(wc -c < "$work/first") / 2))
-in_range() { [ "$2" -ge 1 ] && [ "$2" -le "$1" ]; }
-if in_range 128 "$nodes" && in_range 16 "$signals" && in_range 2048 "$edges" && [ "$given" -ne "$has" ]; then
-  echo "$1: its header gives $given words, and it has $has" >&2
-  exit 1
-fi
-# Fewer than three words are no header, and words of the second file must not be taken for it.
-if [ "$has" -lt 3 ]; then
-  : > "$work/second"
-fi
+accepted "$1" "$work/first"
+accepted "$2" "$work/second"
+# The programs cut their input where the first sheet's header says that it ends. The first is accepted, so that is its end.
 cat "$work/first" "$work/second" > "$work/sheets"
 "$here/target/bin/compare" < "$work/sheets"
 "$here/target/bin/explain" < "$work/sheets"

@@ -1,19 +1,24 @@
-//! The program `sheet`, run both ways over the examples and over random texts and sheets, and
-//! `compare.sh` on texts.
+//! The program `sheet`: texts turned into bytes and back, over the examples and over random texts and
+//! sheets; single sheets checked, as bytes and as texts; and `compare.sh` on texts.
 
 mod programs;
 
 use checker::coverage::Coverage;
+use checker::generate::damage::{MACHINE_FAULTS, RULE_FAULTS};
+use checker::generate::machines::machine_sheet;
+use checker::generate::rules::rule_sheet;
 use checker::generate::texts;
+use checker::program::{bytes, words};
 use checker::rng::Rng;
-use checker::text::{to_bytes, to_text, Printed, TEXT, WORDS};
-use checker::worked;
+use checker::text::{self, to_bytes, to_text, Printed, TEXT, WORDS};
+use checker::{machine, rules, worked};
 use std::fs;
 use std::path::{Path, PathBuf};
 use std::process::{Command, Output};
 
 const SEED: u64 = 0x7368_6565_7401;
 const CASES: u64 = 3_000;
+const CHECKS: u64 = 1_500;
 
 fn root() -> PathBuf {
     PathBuf::from(env!("CARGO_MANIFEST_DIR")).join("..")
@@ -111,9 +116,164 @@ fn sizes_at_the_limit() {
     }
 }
 
+/// One of the two checks: its word, its questions, and the number of its only sheet in a refusal.
+struct Check {
+    word: &'static str,
+    refusal: fn(&[u16]) -> Option<u16>,
+    sheet: u16,
+}
+
+const MACHINE: Check = Check {
+    word: "machine",
+    refusal: machine::refusal,
+    sheet: 1,
+};
+
+const RULES: Check = Check {
+    word: "rules",
+    refusal: rules::refusal,
+    sheet: 0,
+};
+
+impl Check {
+    /// The first line for the bytes of a sheet.
+    fn line(&self, sheet: &[u8]) -> String {
+        let Some(words) = words(sheet, 2 * WORDS) else {
+            return "refused 0 0".to_string();
+        };
+        match (self.refusal)(&words) {
+            None => "accepted".to_string(),
+            Some(question) => format!("refused {question} {}", self.sheet),
+        }
+    }
+
+    /// Runs the program on the bytes of a sheet, and, where they are words, on its text too: the line,
+    /// and for a refusal one line of words.
+    fn run(&self, name: &str, sheet: &[u8], seen: &mut Coverage) {
+        let line = self.line(sheet);
+        seen.note(&line);
+        let printed = run(&[self.word], sheet);
+        self.judge(name, &line, &printed);
+        if let Some(words) = words(sheet, 2 * WORDS) {
+            let text = run(&[self.word, "text"], text::text(&words).as_bytes());
+            assert_eq!(text, printed, "{name}, as text");
+        }
+    }
+
+    fn judge(&self, name: &str, line: &str, printed: &Printed) {
+        assert_eq!(printed.error, "", "{name}");
+        let told = String::from_utf8_lossy(&printed.out);
+        let lines: Vec<&str> = told.split_terminator('\n').collect();
+        let question = line.split(' ').nth(1);
+        match question {
+            None => assert_eq!(lines, [line], "{name}"),
+            Some(question) => {
+                assert_eq!((lines[0], lines.len()), (line, 2), "{name}: {told}");
+                let words = match question {
+                    "0" => "refused: an odd number of bytes".to_string(),
+                    _ => format!("refused: question {question}: "),
+                };
+                assert!(lines[1].starts_with(&words), "{name}: {told}");
+            }
+        }
+    }
+}
+
+/// A sheet as it is, cut, or with bytes behind it, odd in number or not.
+fn altered(rng: &mut Rng, mut sheet: Vec<u8>) -> Vec<u8> {
+    match rng.below(8) {
+        0 => sheet.truncate(rng.below(sheet.len() + 1)),
+        1 => sheet.push(rng.word() as u8),
+        2 => sheet.extend([0, 0]),
+        _ => (),
+    }
+    sheet
+}
+
+#[test]
+fn machine_sheets_are_checked() {
+    let mut seen = Coverage::new();
+    for case in 0..CHECKS {
+        let mut rng = Rng::for_case(SEED + 1, case);
+        let mut sheet = machine_sheet(&mut rng);
+        if rng.below(2) == 0 {
+            let (_, fault) = rng.pick(&MACHINE_FAULTS);
+            fault(&mut rng, &mut sheet);
+        }
+        let sheet = altered(&mut rng, bytes(&sheet.words()));
+        let name = format!("seed {:#x}, case {case}", SEED + 1);
+        MACHINE.run(&name, &sheet, &mut seen);
+    }
+    for line in ["accepted", "refused 0 0", "refused 2 1", "refused 5 1"] {
+        seen.require(line, 20);
+    }
+}
+
+#[test]
+fn rule_sheets_are_checked() {
+    let mut seen = Coverage::new();
+    for case in 0..CHECKS {
+        let mut rng = Rng::for_case(SEED + 2, case);
+        let mut sheet = rule_sheet(&mut rng);
+        if rng.below(2) == 0 {
+            let (_, fault) = rng.pick(&RULE_FAULTS);
+            fault(&mut rng, &mut sheet);
+        }
+        let sheet = altered(&mut rng, bytes(&sheet.words()));
+        let name = format!("seed {:#x}, case {case}", SEED + 2);
+        RULES.run(&name, &sheet, &mut seen);
+    }
+    for line in ["accepted", "refused 0 0", "refused 8 0", "refused 13 0"] {
+        seen.require(line, 20);
+    }
+}
+
+#[test]
+fn sheets_at_the_limit_are_checked() {
+    let mut seen = Coverage::new();
+    for check in [MACHINE, RULES] {
+        for length in (0..9).chain(2 * WORDS - 1..2 * WORDS + 3) {
+            check.run(&format!("{length} bytes"), &vec![1; length], &mut seen);
+        }
+        for length in [250_000, 250_001] {
+            let printed = run(&[check.word], &vec![1; length]);
+            check.judge("more bytes than are read", "refused 0 0", &printed);
+            let text = run(&[check.word, "text"], &vec![b' '; length]);
+            let long = Printed {
+                out: vec![],
+                error: "more than 200000 bytes\n".to_string(),
+            };
+            same("a longer text", &text, &long);
+        }
+    }
+}
+
+#[test]
+fn faults_of_checked_texts_are_those_of_turned_ones() {
+    for case in 0..300 {
+        let text = texts::any(&mut Rng::for_case(SEED + 3, case));
+        let turned = to_bytes(&text);
+        for check in [MACHINE, RULES] {
+            let printed = run(&[check.word, "text"], &text);
+            let name = format!("seed {:#x}, case {case}", SEED + 3);
+            match turned.error.is_empty() {
+                true => check.judge(&name, &check.line(&turned.out), &printed),
+                false => same(&name, &printed, &turned),
+            }
+        }
+    }
+}
+
 #[test]
 fn other_arguments_get_the_usage() {
-    let wrong: [&[&str]; 6] = [
+    let wrong: [&[&str]; 13] = [
+        &["machines"],
+        &["rule"],
+        &["machine", "bytes"],
+        &["text", "text"],
+        &["text", "machine"],
+        &["machine", "text", "text"],
+        &["rules", "a longer word"],
         &[],
         &[""],
         &["byte"],
@@ -165,6 +325,18 @@ fn texts_are_compared() {
     assert!(compare(&text("M1.txt"), &sheet)
         .stdout
         .starts_with(b"equal\n"));
+    let short = folder.join("short.sheet");
+    fs::write(&short, &checker::program::bytes(&worked::m2())[..24]).expect("it can be written");
+    for (first, second) in [(&short, &text("M1.txt")), (&text("M1.txt"), &short)] {
+        let uncut = compare(first, second);
+        assert_eq!(uncut.status.code(), Some(1));
+        let told = String::from_utf8_lossy(&uncut.stdout);
+        let named = format!("{}: refused 2 1\nrefused: question 2: ", short.display());
+        assert!(
+            told.starts_with(&named) && uncut.stderr.is_empty(),
+            "{told}"
+        );
+    }
     let faulty = folder.join("faulty.txt");
     fs::write(&faulty, "1 1 1\n1 1 one\n1 0\n").expect("it can be written");
     let refused = compare(&text("M1.txt"), &faulty);

@@ -1,34 +1,48 @@
--- What the comparing program says of its input.
+-- What the comparing program prints. Document 01: "It prints one line: `equal`, `unequal`, or `refused Q S` (number, sheet), and
+-- `refused 0 0` for an odd byte count or more than 20,000 bytes."
 use mathlib.Core.Path.{_≡_}
-use Prim.Native.Nat.{ℕ}
-use mathlib.Core.List.{List}
+use Prim.Native.Nat.{ℕ, _≤_}
+use mathlib.Core.List.{List, [], _∷_}
 use mathlib.Core.Bool.{true, false}
 use lib.ListN.{length}
+use Rattle.truth.specs.Passed.{Refusal, firstNo}
+use Rattle.text.specs.Lines.{Holds}
+use Rattle.text.specs.declared.line.Line.{Line}
 use Rattle.input.specs.Bytes.{readable, wordsOf}
 use Rattle.input.specs.Cut.{firstSheet, secondSheet}
-use Rattle.input.specs.declared.line.Said.{Said}
-use Rattle.input.specs.declared.line.Said.the-variants as Said
-use Rattle.comparison.specs.Answers.{CompareAnswer}
+use Rattle.input.specs.Lines.{refusedLine}
+use Rattle.comparison.specs.Comparison as Comparison
+use Rattle.comparison.specs.Answers.{comparisonQuestions, refusalOf}
 use Rattle.comparison.specs.declared.compare.Answer.{Answer}
-use Rattle.comparison.specs.declared.compare.Answer.the-variants.{Equal, Unequal, Refused}
+use Rattle.comparison.specs.declared.compare.Answer.the-variants.{Refused, Equal, Unequal}
 
--- what the program says for each answer of the comparison
-unfoldable pub saidOf : Answer → Said
-saidOf Equal = Said.Equal
-saidOf Unequal = Said.Unequal
-saidOf (Refused q i) = Said.Refused q i
+-- the line of each answer, in ASCII
+unfoldable pub lineBytes : Answer → List ℕ
+unfolding refusedLine
+lineBytes (Refused q i) = refusedLine q i
+lineBytes Equal = 101 ∷ 113 ∷ 117 ∷ 97 ∷ 108 ∷ 10 ∷ []
+lineBytes Unequal = 117 ∷ 110 ∷ 101 ∷ 113 ∷ 117 ∷ 97 ∷ 108 ∷ 10 ∷ []
 
--- what is said of two sheets: an answer of the comparison with space for the longest rule, 33 + 6 × (16 + 7 × 128) words
-pub record Compared (M₁ M₂ : List ℕ) (said : Said) : Type 0 where
+-- the refusal of two sheets by the first question of comparison that says no; the program's space for the rule has 5,505 words,
+-- 33 + 6 × (16 + 7 × 128), so that question 22 is never that one (theorem `never-22`)
+unfoldable pub refusal : List ℕ → List ℕ → Refusal
+unfolding firstNo comparisonQuestions
+refusal M₁ M₂ = firstNo (comparisonQuestions M₁ M₂ 5505)
+
+-- the answer to two sheets: their refusal, or equal, or not
+pub record Compared (M₁ M₂ : List ℕ) (answer : Answer) : Type 0 where
+  pub asked : refusalOf answer ≡ refusal M₁ M₂
+  pub refused : (q i : ℕ) → answer ≡ Refused q i → 1 ≤ q
+  pub equal : answer ≡ Equal → Comparison.Equal M₁ M₂
+  pub unequal : answer ≡ Unequal → Comparison.Equal M₁ M₂ → ⊥
+
+-- the answer to the bytes of standard input: "`refused 0 0` for an odd byte count or more than 20,000 bytes", else that to the two sheets
+pub record Answered (bytes : List ℕ) (answer : Answer) : Type 0 where
+  pub refused : readable 20000 (length bytes) ≡ false → answer ≡ Refused 0 0
+  pub compared : readable 20000 (length bytes) ≡ true → Compared (firstSheet (wordsOf bytes)) (secondSheet (wordsOf bytes)) answer
+
+-- the line that is printed: that of the answer, and nothing else
+pub record Printed (bytes : List ℕ) (line : Line) : Type 0 where
   pub answer : Answer
-  pub before : List ℕ
-  pub after : List ℕ
-  pub room : length before ≡ 5505
-  pub compared : CompareAnswer M₁ M₂ before after answer
-  pub told : said ≡ saidOf answer
-
--- "at most 20,000 bytes", and "`refused 0 0` for an odd byte count or more than 20,000 bytes"
--- what is said of the bytes of standard input: "`refused 0 0` for an odd byte count or more than 20,000 bytes", else of the two sheets
-pub record Answered (bytes : List ℕ) (said : Said) : Type 0 where
-  pub refused : readable 20000 (length bytes) ≡ false → said ≡ Said.Refused 0 0
-  pub compared : readable 20000 (length bytes) ≡ true → Compared (firstSheet (wordsOf bytes)) (secondSheet (wordsOf bytes)) said
+  pub answered : Answered bytes answer
+  pub held : Holds line (lineBytes answer)

@@ -7,7 +7,7 @@ use Rattle.text.specs.declared.line.Line.{Line}
 use Rattle.text.specs.Decimals.{decimal}
 use Rattle.text.specs.Lines.{Holds, Adds}
 use Rattle.text.proofs.Decimals.{decimal-length}
-use Rattle.text.proofs.HeldLines.{adds-then}
+use Rattle.text.proofs.HeldLines.{adds-then, holds-added}
 
 -- from its head: a number of 16 bits has at most five digits
 pub refused-line : (head a b c line : Line) (q s : ℕ) → Holds head (114 ∷ 101 ∷ 102 ∷ 117 ∷ 115 ∷ 101 ∷ 100 ∷ 32 ∷ [])
@@ -17,4 +17,4 @@ refused-line head a b c line q s h small-q small-s to-a to-b to-c to-line =
     let of-q = decimal-length 4 q (omega arith) in
     let of-s = decimal-length 4 s (omega arith) in
     let numbers = adds-then head a line _ _ to-a (adds-then a b line _ _ to-b (adds-then b c line _ _ to-c to-line)) in
-    numbers (114 ∷ 101 ∷ 102 ∷ 117 ∷ 115 ∷ 101 ∷ 100 ∷ 32 ∷ []) h (simp length-append (omega arith))
+    holds-added head line (114 ∷ 101 ∷ 102 ∷ 117 ∷ 115 ∷ 101 ∷ 100 ∷ 32 ∷ []) _ h numbers (simp length-append (omega arith))

@@ -1,9 +1,9 @@
 -- A sheet turned from one form into the other, by cases.
-use mathlib.Core.Path.{_≡_, refl, sym, ap, _∙_}
+use mathlib.Core.Path.{_≡_, sym, ap, _∙_}
 use Prim.Native.Nat.{ℕ, _*_, _/_, _%_, _≤_, _<_, min}
 use native.Mathlib.Omega.{arith}
 use mathlib.Core.List.{List, _++_}
-use mathlib.Core.Bool.{Bool, true, false, cond, true≢false}
+use mathlib.Core.Bool.{Bool, true, false, cond}
 use lib.ListN.{length, take, drop, length-append, length-drop}
 use lib.Seq.{take-length}
 use borrow.Author.Tests.{lt-ltb, le-ltb, eq-eqb, ne-eqb}
@@ -16,8 +16,7 @@ use Rattle.text.specs.declared.write.Written.{Written}
 use Rattle.text.specs.declared.write.Written.the-variants as Written
 use Rattle.text.proofs.Answers.{Got}
 use Rattle.input.specs.Bytes.{wordsOf, bytesOf}
-use Rattle.input.specs.Turns.{bytesWord, textWord, Asked, Turn, refused, done, ofRead, toBytes, ofWritten, toText}
-use Rattle.input.specs.declared.turn.Form.the-variants.{Bytes, Text, Neither}
+use Rattle.input.specs.Turns.{Turn, refused, done, ofRead, toBytes, ofWritten, toText}
 use Rattle.input.specs.declared.turn.Turned.{Turned}
 use Rattle.input.specs.declared.turn.Turned.the-variants.{Done, Fault, Odd, Long, NoRoom}
 use Rattle.input.proofs.ByteLists.{bytes-length}
@@ -80,24 +79,6 @@ module _ (sheet lent : List ℕ) where
         let is = le-ltb 29006 (length sheet) short in
         let even = ne-eqb (length sheet % 2) 1 even in
         (rw (is, even, ← all, is-written), rw (is, even, ← all, is-left))
-
--- ---- which form is asked for
-
-pub clash : {t : Bool} → t ≡ false → t ≡ true → ⊥
-clash off on = true≢false (sym on ∙ off)
-
-module _ (count : ℕ) (word : List ℕ) where
-  pub asks-neither : (count ≡ 2 → ⊥) → Asked count word Neither
-  asks-neither other = record { bytes = λ e w. absurd (other e); text = λ e w. absurd (other e); neither = λ b t. refl }
-
-  pub asks-bytes : count ≡ 2 → word ≡ bytesWord → Asked count word Bytes
-  asks-bytes one is = record { bytes = λ e w. refl; text = λ e w. absurd (let z : _≡_ {A = ℕ} 0 1 = cc in omega arith); neither = λ b t. absurd (b one is) }
-
-  pub asks-text : count ≡ 2 → word ≡ textWord → Asked count word Text
-  asks-text one is = record { bytes = λ e w. absurd (let z : _≡_ {A = ℕ} 0 1 = cc in omega arith); text = λ e w. refl; neither = λ b t. absurd (t one is) }
-
-  pub asks-other : (word ≡ bytesWord → ⊥) → (word ≡ textWord → ⊥) → Asked count word Neither
-  asks-other no-bytes no-text = record { bytes = λ e w. absurd (no-bytes w); text = λ e w. absurd (no-text w); neither = λ b t. refl }
 
 -- ---- what is written is a part of the lent bytes
 

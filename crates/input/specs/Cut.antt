@@ -1,11 +1,15 @@
 -- Where the first sheet ends. Document 01: "the first sheet's header gives its end, if question 1 says yes and the words reach that
 -- far, else all words are the first sheet and the second is empty".
-use Prim.Native.Nat.{ℕ, _+_, _*_}
+use mathlib.Core.Path.{_≡_}
+use Prim.Native.Nat.{ℕ, _+_, _*_, _≤_}
 use mathlib.Core.List.{List}
-use mathlib.Core.Bool.{cond, _&&_}
+use mathlib.Core.Bool.{true, false, cond, _&&_}
 use lib.ListN.{length, take, drop}
 use lib.Dec.{leb}
 use Rattle.sheets.specs.Machine.{nodes, edges, q1}
+use Rattle.input.specs.Bytes.{readable, wordsOf}
+use Rattle.input.specs.declared.cut.Cut.{Cut}
+use Rattle.input.specs.declared.cut.Cut.the-variants.{Unreadable, Sheets}
 
 -- "the first sheet's header gives its end": the length that question 2 asks for
 unfoldable pub headerEnd : List ℕ → ℕ
@@ -25,3 +29,17 @@ firstSheet words = take (firstEnd words) words
 unfoldable pub secondSheet : List ℕ → List ℕ
 unfolding firstEnd
 secondSheet words = drop (firstEnd words) words
+
+-- words that stand at the head of lent ones, up to one place, with the first sheet up to another
+pub record Stand (words lent : List ℕ) (end count : ℕ) : Type 0 where
+  pub whole : take count lent ≡ words
+  pub within : count ≤ length lent
+  pub cut : end ≡ firstEnd words
+  pub ordered : end ≤ count
+
+-- The bytes of standard input as two sheets in lent words. An odd number of bytes, or more than two for each word, is not readable, and
+-- then the words are as before.
+pub data TwoSheets (bytes before : List ℕ) : List ℕ → Cut → Type 0 where
+  unreadable : readable (2 * length before) (length bytes) ≡ false → TwoSheets bytes before before Unreadable
+  sheets : {after : List ℕ} {end count : ℕ} → readable (2 * length before) (length bytes) ≡ true → Stand (wordsOf bytes) after end count
+      → TwoSheets bytes before after (Sheets end count)

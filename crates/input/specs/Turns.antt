@@ -1,7 +1,6 @@
 -- A sheet as text and as bytes. A sheet has at most 14,503 words: the largest machine sheet, 4,483, with the largest rule sheet, 10,020.
-use mathlib.Core.Path.{_≡_}
 use Prim.Native.Nat.{ℕ, _%_}
-use mathlib.Core.List.{List, [], _∷_, _++_}
+use mathlib.Core.List.{List, _++_}
 use mathlib.Core.Bool.{cond}
 use lib.ListN.{length, drop}
 use lib.Dec.{ltb, eqb}
@@ -10,23 +9,8 @@ use Rattle.text.specs.Layout.{writtenOf, textLeft}
 use Rattle.text.specs.declared.write.Written.{Written}
 use Rattle.text.specs.declared.write.Written.the-variants as Written
 use Rattle.input.specs.Bytes.{wordsOf, bytesOf}
-use Rattle.input.specs.declared.turn.Form.{Form}
-use Rattle.input.specs.declared.turn.Form.the-variants.{Bytes, Text, Neither}
 use Rattle.input.specs.declared.turn.Turned.{Turned}
 use Rattle.input.specs.declared.turn.Turned.the-variants.{Done, Fault, Odd, Long, NoRoom}
-
--- `bytes` and `text`, in ASCII
-abbrev pub bytesWord : List ℕ
-bytesWord = 98 ∷ 121 ∷ 116 ∷ 101 ∷ 115 ∷ []
-
-abbrev pub textWord : List ℕ
-textWord = 116 ∷ 101 ∷ 120 ∷ 116 ∷ []
-
--- the form that is asked for: one argument, `bytes` or `text`
-pub record Asked (count : ℕ) (word : List ℕ) (form : Form) : Type 0 where
-  pub bytes : count ≡ 2 → word ≡ bytesWord → form ≡ Bytes
-  pub text : count ≡ 2 → word ≡ textWord → form ≡ Text
-  pub neither : (count ≡ 2 → word ≡ bytesWord → ⊥) → (count ≡ 2 → word ≡ textWord → ⊥) → form ≡ Neither
 
 -- the answer, and the lent bytes after it
 pub record Turn : Type 0 where

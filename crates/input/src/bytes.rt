@@ -14,7 +14,7 @@ pub fn readable(count: usize, most: usize) -> bool
 }
 
 // The word of two bytes.
-pub fn word_of(low: u8, high: u8) -> u16
+fn word_of(low: u8, high: u8) -> u16
     ensures { λ r. ⌜ r ≡ wordOf low high ⌝ }
 {
     (low as u16) + 256 * (high as u16)

@@ -1,6 +1,6 @@
-// A sheet as text and as bytes: one form turned into the other, and which of the two a program is asked for.
+// A sheet as text and as bytes: one form turned into the other.
 ghost use mathlib.Core.Path.{_≡_};
-ghost use Rattle.input.specs.Turns.{Asked, toBytes, toText};
+ghost use Rattle.input.specs.Turns.{toBytes, toText};
 use crate::bytes;
 use text::read;
 use text::read::Kind;
@@ -8,13 +8,6 @@ use text::read::Place;
 use text::read::Reading;
 use text::write;
 use text::write::Written;
-
-// The form that is asked for.
-pub enum Form {
-    Bytes,
-    Text,
-    Neither,
-}
 
 // What came of it: so many bytes are written, or nothing is: the text's first fault, an odd number of bytes, more bytes than are taken,
 // or too little space.
@@ -24,22 +17,6 @@ pub enum Turned {
     Odd,
     Long,
     NoRoom,
-}
-
-// The form that a program's arguments ask for: the number of its words, its own name among them, and the one after that.
-pub fn form_of(count: usize, word: &[u8]) -> Form
-    ensures { λ r. ⌜ Asked count (now (word .entry)) r ⌝ }
-{
-    if count != 2 {
-        return Form::Neither;
-    }
-    if check::same(word, b"bytes") {
-        return Form::Bytes;
-    }
-    if check::same(word, b"text") {
-        return Form::Text;
-    }
-    Form::Neither
 }
 
 // Puts the bytes of the sheet that a text says at the head of `sheet`.

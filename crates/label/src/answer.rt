@@ -1,8 +1,7 @@
 // What is answered to the input.
-ghost use Rattle.input.specs.Cut.{firstSheet, secondSheet};
 ghost use Rattle.label.specs.Program.{LabelledSheets, Answered};
-use input::bytes;
 use input::cut;
+use input::cut::Cut;
 use sheets::machine;
 use sheets::rules;
 use truth::labelling;
@@ -48,25 +47,20 @@ fn label_sheets(m: &[u16], r: &[u16], rows: &mut [u64]) -> Answer
     }
 }
 
-// The answer to words, the two sheets one after the other.
-fn label_words(words: &[u16], rows: &mut [u64]) -> Answer
-    ensures { λ a. ⌜ LabelledSheets (firstSheet (now (words .entry))) (secondSheet (now (words .entry))) (now (rows .entry)) (now (rows .exit)) a ⌝ }
-{
-    let end = cut::first_end(words);
-    label_sheets(&words[..end], &words[end..], rows)
-}
-
 // The answer to the bytes of standard input; the truth rows go to the lent space, two words a line.
 pub fn answer_to(input: &[u8], rows: &mut [u64]) -> Answer
     ensures { λ a. ⌜ Answered (now (input .entry)) (now (rows .entry)) (now (rows .exit)) a ⌝ }
 {
-    if !bytes::readable(input.len(), 29006) {
-        return Answer::Refused {
+    let mut words = [0u16; 14503];
+    let cut = cut::sheets_of(input, &mut words);
+    match cut {
+        Cut::Unreadable => Answer::Refused {
             question: 0,
             sheet: 0,
-        };
+        },
+        Cut::Sheets { end, count } => {
+            let both = &words[..count];
+            label_sheets(&both[..end], &both[end..], rows)
+        }
     }
-    let mut words = [0u16; 14503];
-    let n = bytes::words_of(input, &mut words);
-    label_words(&words[..n], rows)
 }

@@ -1,2 +1,3 @@
 -- The laws of the path program.
+pub mod Digits
 pub mod ShownRooms

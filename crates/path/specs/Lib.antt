@@ -1,2 +1,3 @@
 -- The definitions of the path program.
+pub mod Arguments
 pub mod Program

@@ -1,37 +1,13 @@
 // The path program: a machine sheet and a rule sheet from standard input, a line and a node as arguments; a path that shows the line
 // true at the node, to standard output.
 mod answer; // answer.rt: what is answered to the input
+mod arguments; // arguments.rt: what the arguments ask for
 mod print; // print.rt: what is printed
 
+use arguments::Asked;
 use libc::STDERR_FILENO;
 use libc::STDIN_FILENO;
-use text::read;
-use text::read::Reading;
 use truth::path::Shown;
-
-// What an argument says: a number, or nothing that is taken.
-enum Argument {
-    Number { value: u16 },
-    Refused,
-}
-
-// The number that an argument gives: it is read as a text of one word. One that is missing or longer than 16 bytes is read as an empty text.
-fn number(i: usize) -> Argument {
-    let mut bytes = [0u8; 16];
-    let n = os::arg(i, &mut bytes);
-    let mut word = [0u16; 1];
-    let reading = read::words_of_text(&bytes[..n], &mut word);
-    match reading {
-        Reading::Words { count } => {
-            if count == 1 {
-                Argument::Number { value: word[0] }
-            } else {
-                Argument::Refused
-            }
-        }
-        Reading::Fault { kind: _, at: _ } => Argument::Refused,
-    }
-}
 
 fn usage() {
     io::write_all(
@@ -57,20 +33,15 @@ fn show(line: u16, node: u16) {
     }
 }
 
+// An argument that is missing or longer than 16 bytes is taken for an empty one.
 fn main() {
-    if os::arg_count() != 3 {
-        usage();
-        return;
+    let mut first = [0u8; 16];
+    let n = os::arg(1, &mut first);
+    let mut second = [0u8; 16];
+    let m = os::arg(2, &mut second);
+    let asked = arguments::asked_for(os::arg_count(), &first[..n], &second[..m]);
+    match asked {
+        Asked::Path { line, node } => show(line, node),
+        Asked::Usage => usage(),
     }
-    let first = number(1);
-    let second = number(2);
-    let Argument::Number { value: line } = first else {
-        usage();
-        return;
-    };
-    let Argument::Number { value: node } = second else {
-        usage();
-        return;
-    };
-    show(line, node);
 }

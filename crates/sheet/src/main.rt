@@ -1,26 +1,37 @@
-// Turns the text of a sheet into its bytes, `sheet bytes`, or its bytes into text, `sheet text`, from standard input to standard output.
-// What is wrong is one line on standard error, and then nothing is written to standard output.
+// Turns the text of a sheet into its bytes, `sheet bytes`, or its bytes into text, `sheet text`, from standard input to standard output;
+// or checks one machine sheet, `sheet machine`, or one rule sheet, `sheet rules`, of bytes or, with the word `text` behind, of a text.
+// What is wrong with the arguments, with a text, or with bytes that are to be text is one line on standard error, and then nothing is
+// written to standard output.
+mod answer; // answer.rt: what is answered to a sheet that is checked, and the line that says it
+mod asked; // asked.rt: what the arguments ask for
+
 ghost use mathlib.Core.Path.{_≡_};
 ghost use Prim.Native.Nat.{ℕ, _≤_};
 ghost use lib.ListN.{length};
+use answer::Answer;
+use answer::Sort;
+use asked::Asked;
 use input::turn;
-use input::turn::Form;
 use input::turn::Turned;
 use libc::STDERR_FILENO;
 use libc::STDIN_FILENO;
 use libc::STDOUT_FILENO;
+use sheets::checks::Check;
 use text::read::Kind;
 use text::read::Place;
 
 fn main() {
-    let mut word = [0u8; 8];
-    let n = os::arg(1, &mut word);
-    let form = turn::form_of(os::arg_count(), &word[..n]);
-    match form {
-        Form::Bytes => bytes(),
-        Form::Text => text(),
-        Form::Neither => say(
-            b"usage: sheet bytes (text in, bytes out) or sheet text (bytes in, text out)\n",
+    let mut first = [0u8; 8];
+    let n = os::arg(1, &mut first);
+    let mut second = [0u8; 8];
+    let m = os::arg(2, &mut second);
+    let asked = asked::asked_for(os::arg_count(), &first[..n], &second[..m]);
+    match asked {
+        Asked::Bytes => bytes(),
+        Asked::Text => text(),
+        Asked::Check { sort, text } => check(sort, text),
+        Asked::Usage => complain(
+            b"usage: sheet bytes (text in, bytes out), sheet text (bytes in, text out), or sheet machine, sheet rules (bytes in), sheet machine text, sheet rules text (text in): accepted, or refused and why\n",
         ),
     }
 }
@@ -43,6 +54,31 @@ fn text() {
     tell(turned, &text, b"more than 29006 bytes, 14503 words\n");
 }
 
+// A sheet in; its line out, and a refusal in words. One byte more is read than is taken of a text, and more than is taken of bytes.
+fn check(sort: Sort, text: bool) {
+    let mut input = [0u8; 200001];
+    let n = io::read_full(STDIN_FILENO, &mut input);
+    let told = answer::told_for(sort, text, &input[..n]);
+    let line = told.line;
+    let bytes = line.bytes;
+    let len = line.len;
+    io::write_all(STDOUT_FILENO, &bytes[..len]);
+    let answer = told.answer;
+    match answer {
+        Answer::Checked { check } => explain(check),
+        Answer::Fault { kind, at } => complain_of(kind, at),
+        Answer::Long => complain(b"more than 200000 bytes\n"),
+    }
+}
+
+// A refusal in words. It names no sheet, since there is one only.
+fn explain(check: Check) {
+    match check {
+        Check::Accepted => {}
+        Check::Refused { question, sheet: _ } => say::refusal(question, 0),
+    }
+}
+
 // Prints what is written, or what is wrong; `long` says that more bytes came than are taken.
 fn tell(turned: Turned, written: &[u8], long: &[u8])
     requires { ⌜ ((count : ℕ) → turned ≡ Turned.Done count → count ≤ length (now written)) ⌝ }
@@ -51,25 +87,25 @@ fn tell(turned: Turned, written: &[u8], long: &[u8])
         Turned::Done { count } => {
             io::write_all(STDOUT_FILENO, &written[..count]);
         }
-        Turned::Fault { kind, at } => say_fault(kind, at),
-        Turned::Odd => say(b"an odd number of bytes\n"),
-        Turned::Long => say(long),
-        Turned::NoRoom => say(b"too little space\n"),
+        Turned::Fault { kind, at } => complain_of(kind, at),
+        Turned::Odd => complain(b"an odd number of bytes\n"),
+        Turned::Long => complain(long),
+        Turned::NoRoom => complain(b"too little space\n"),
     }
 }
 
-fn say_fault(kind: Kind, at: Place) {
-    say(b"line ");
+fn complain_of(kind: Kind, at: Place) {
+    complain(b"line ");
     io::print_decimal(STDERR_FILENO, at.line as u64);
-    say(b", column ");
+    complain(b", column ");
     io::print_decimal(STDERR_FILENO, at.column as u64);
     match kind {
-        Kind::NotDecimal => say(b": this is not a decimal number\n"),
-        Kind::Above => say(b": the number is above 65535\n"),
-        Kind::NoRoom => say(b": more than 14503 words\n"),
+        Kind::NotDecimal => complain(b": this is not a decimal number\n"),
+        Kind::Above => complain(b": the number is above 65535\n"),
+        Kind::NoRoom => complain(b": more than 14503 words\n"),
     }
 }
 
-fn say(line: &[u8]) {
+fn complain(line: &[u8]) {
     io::write_all(STDERR_FILENO, line);
 }

@@ -13,6 +13,7 @@ use Rattle.text.specs.Layout.{enderOf, wordText, textFrom, textOf, writt
 use Rattle.text.specs.declared.line.Line.{Line}
 use Rattle.text.specs.declared.write.Written.the-variants.{Text, NoRoom}
 use Rattle.text.proofs.Decimals.{decimal-length}
+use Rattle.text.proofs.HeldLines.{holds-added, adds-then}
 
 -- a word and a blank are at most six bytes
 pub word-most : (word blank : ℕ) → word < 65536 → length (wordText word blank) ≤ 6
@@ -22,7 +23,7 @@ pub word-held : (none digits line : Line) (word blank : ℕ) → word < 65536 �
     → Adds digits (blank ∷ []) line → Holds line (wordText word blank)
 word-held none digits line word blank small start number last =
     let most = decimal-length 4 word (omega arith) in
-    last (decimal word) (number [] start (omega arith)) (omega arith)
+    holds-added none line [] (wordText word blank) start (adds-then none digits line (decimal word) (blank ∷ []) number last) (simp length-append (omega arith))
 
 -- a line that holds a text, put into a list
 pub line-pasted : (line : Line) (text list : List ℕ) (at : ℕ) → Holds line text

@@ -34,7 +34,7 @@ impl Line {
         next
     }
 
-    // The line with a number's decimal digits more.
+    // The line with a number's decimal digits more, as far as there is a place for them.
     pub fn with_number(self, n: u16) -> Line
         ensures { λ r. ⌜ Adds self (decimal n) r ⌝ }
     {

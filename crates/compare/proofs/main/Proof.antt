@@ -13,20 +13,17 @@ read-full-requires c κs = search needs
 array-share-prefix-input : tie.Need-array-share-prefix-input
 array-share-prefix-input c = search needs
 
-slice-aggregate-answer : tie.Need-slice-aggregate-answer
-slice-aggregate-answer c = search needs
+slice-aggregate-line-for : tie.Need-slice-aggregate-line-for
+slice-aggregate-line-for c = search needs
 
-answer-requires : tie.Need-answer-requires
-answer-requires c κs = search needs
-
-line-of-requires : tie.Need-line-of-requires
-line-of-requires c κs = search needs
+line-for-requires : tie.Need-line-for-requires
+line-for-requires c κs = search needs
 
 array-share-prefix-bytes : tie.Need-array-share-prefix-bytes
-array-share-prefix-bytes c = line-part (c .before .line-of .result) _ (c .before .line-of .ensures) .0
+array-share-prefix-bytes c = line-part (c .before .line-for .result) _ (c .before .line-for .ensures .held) .0
 
 slice-aggregate-write-all : tie.Need-slice-aggregate-write-all
-slice-aggregate-write-all c = line-part (c .before .before .line-of .result) _ (c .before .before .line-of .ensures) .1
+slice-aggregate-write-all c = line-part (c .before .before .line-for .result) _ (c .before .before .line-for .ensures .held) .1
 
 write-all-requires : tie.Need-write-all-requires
 write-all-requires c κs = search needs
@@ -41,9 +38,8 @@ main-spec =
     slice-aggregate-read-full
     read-full-requires
     array-share-prefix-input
-    slice-aggregate-answer
-    answer-requires
-    line-of-requires
+    slice-aggregate-line-for
+    line-for-requires
     array-share-prefix-bytes
     slice-aggregate-write-all
     write-all-requires

@@ -19,32 +19,32 @@ write-all-requires c κs = search needs
 enum-known-turned-2 : tie.Need-enum-known-turned-2
 enum-known-turned-2 c = search needs
 
-say-fault-requires : tie.Need-say-fault-requires
-say-fault-requires c κs = search needs
+complain-of-requires : tie.Need-complain-of-requires
+complain-of-requires c κs = search needs
 
 enum-told : tie.Need-enum-told
 enum-told c = search needs
 
-slice-aggregate-say : tie.Need-slice-aggregate-say
-slice-aggregate-say c = search needs
+slice-aggregate-complain : tie.Need-slice-aggregate-complain
+slice-aggregate-complain c = search needs
 
-say-requires : tie.Need-say-requires
-say-requires c κs = search needs
+complain-requires : tie.Need-complain-requires
+complain-requires c κs = search needs
 
 enum-told-2 : tie.Need-enum-told-2
 enum-told-2 c = search needs
 
-say-requires-2 : tie.Need-say-requires-2
-say-requires-2 c κs = search needs
+complain-requires-2 : tie.Need-complain-requires-2
+complain-requires-2 c κs = search needs
 
 enum-told-3 : tie.Need-enum-told-3
 enum-told-3 c = search needs
 
-slice-aggregate-say-2 : tie.Need-slice-aggregate-say-2
-slice-aggregate-say-2 c = search needs
+slice-aggregate-complain-2 : tie.Need-slice-aggregate-complain-2
+slice-aggregate-complain-2 c = search needs
 
-say-requires-3 : tie.Need-say-requires-3
-say-requires-3 c κs = search needs
+complain-requires-3 : tie.Need-complain-requires-3
+complain-requires-3 c κs = search needs
 
 returns : tie.Need-returns
 returns c = search needs
@@ -69,15 +69,15 @@ tell-spec =
     slice-aggregate-write-all
     write-all-requires
     enum-known-turned-2
-    say-fault-requires
+    complain-of-requires
     enum-told
-    slice-aggregate-say
-    say-requires
+    slice-aggregate-complain
+    complain-requires
     enum-told-2
-    say-requires-2
+    complain-requires-2
     enum-told-3
-    slice-aggregate-say-2
-    say-requires-3
+    slice-aggregate-complain-2
+    complain-requires-3
     returns
     returns-2
     returns-3

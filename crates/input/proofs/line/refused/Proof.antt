@@ -1,7 +1,7 @@
 -- `refused` meets its contract: the fixed head, and then what each call adds; a number of 16 bits has at most five digits.
 use mathlib.Core.Path.{refl}
 use native.Mathlib.Omega.{arith}
-use Rattle.input.specs.Lines.{lineBytes}
+use Rattle.input.specs.Lines.{refusedLine}
 use Rattle.input.proofs.RefusedLine.{refused-line}
 use borrow.Author.Needs.{needs}
 use Rattle.input.proofs.line.refused.Statement.{statement}
@@ -20,7 +20,7 @@ with-byte-requires-2 : tie.Need-with-byte-requires-2
 with-byte-requires-2 c κs = search needs
 
 returns : tie.Need-returns
-unfolding lineBytes
+unfolding refusedLine
 returns c =
     let start = c .before .before .before .before .before .before in
     refused-line _ _ _ _ _ (start .args .question) (start .args .sheet) (record { len = refl; fits = omega arith; bytes = refl }) (omega arith) (omega arith) (c .before .before .before .with-number .ensures) (c .before .before .with-byte .ensures) (c .before .with-number2 .ensures) (c .with-byte2 .ensures)

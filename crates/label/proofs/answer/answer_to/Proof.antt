@@ -1,42 +1,52 @@
--- `answer_to` meets its contract: the words that it lends are all the words of the bytes.
-use mathlib.Core.Path.{_≡_, refl, sym, _∙_}
-use Prim.Native.Nat.{_≤_}
+-- `answer_to` meets its contract: the two parts that it lends are the two sheets of the bytes.
+use mathlib.Core.Path.{refl, sym, _∙_}
 use native.Mathlib.Omega.{arith}
-use mathlib.Core.Bool.{true, false, true≢false}
-use lib.Seq.{length-take-le}
-use lib.ListN.{length, take}
-use borrow.Author.Tests.{not-true, not-false}
-use Rattle.input.specs.Bytes.{readable, wordsOf}
-use Rattle.input.proofs.WordLists.{words-whole}
+use Rattle.input.proofs.Cuts.{not-readable, taken, within, whole-length, end-reached, end-within, first-length, first-lent, second-lent}
+use mathlib.Core.Bool.{true≢false}
 use borrow.Author.Needs.{needs}
 use Rattle.label.proofs.answer.answer_to.Statement.{statement}
 use Rattle.label.proofs.answer.answer_to.Tie as tie
 
-readable-requires : tie.Need-readable-requires
-readable-requires c κs = search needs
+slice-aggregate-sheets-of : tie.Need-slice-aggregate-sheets-of
+slice-aggregate-sheets-of c = search needs
+
+sheets-of-requires : tie.Need-sheets-of-requires
+sheets-of-requires c κs = search needs
+
+enum-told : tie.Need-enum-told
+enum-told c = search needs
+
+enum-known-cut : tie.Need-enum-known-cut
+enum-known-cut c = search needs
+
+array-share-prefix-words : tie.Need-array-share-prefix-words
+array-share-prefix-words c = within (c .before .before .before .before .sheets-of .ensures) (c .before .cut .given .1)
+
+slice-aggregate-both : tie.Need-slice-aggregate-both
+slice-aggregate-both c = whole-length (c .before .before .before .before .before .sheets-of .ensures) (c .before .before .cut .given .1)
+
+slice-aggregate-label-sheets : tie.Need-slice-aggregate-label-sheets
+slice-aggregate-label-sheets c = let at = c .before .before .before in first-length (at .before .before .before .sheets-of .ensures) (at .cut .given .1)
+
+mul-label-sheets : tie.Need-mul-label-sheets
+mul-label-sheets c = let at = c .before .before .before in omega (arith, end-within (at .before .before .before .sheets-of .ensures) (at .cut .given .1))
+
+sub-label-sheets : tie.Need-sub-label-sheets
+sub-label-sheets c = let at = c .before .before .before in end-reached (at .before .before .before .sheets-of .ensures) (at .cut .given .1)
+
+part-label-sheets-start : tie.Need-part-label-sheets-start
+part-label-sheets-start c = let at = c .before .before .before in end-reached (at .before .before .before .sheets-of .ensures) (at .cut .given .1)
+
+part-label-sheets-end : tie.Need-part-label-sheets-end
+part-label-sheets-end c = search needs
+
+label-sheets-requires : tie.Need-label-sheets-requires
+label-sheets-requires c κs = search needs
 
 returns : tie.Need-returns
 returns c =
-    let unreadable = sym (c .before .readable .ensures) ∙ not-true _ (c .if1 .taken) in
-    record { refused = λ e. (refl, refl); labelled = λ e. absurd (true≢false (sym e ∙ unreadable)) }
-
-slice-aggregate-words-of : tie.Need-slice-aggregate-words-of
-slice-aggregate-words-of c = search needs
-
-words-of-requires : tie.Need-words-of-requires
-words-of-requires c κs = search needs
-
-array-share-prefix-words : tie.Need-array-share-prefix-words
-array-share-prefix-words c = search needs
-
-slice-aggregate-label-words : tie.Need-slice-aggregate-label-words
-slice-aggregate-label-words c =
-    let got = c .before .before .words-of in
-    let within : got .result ≤ length (got .last .1 .0) = search needs in
-    sym (length-take-le (got .result) (got .last .1 .0) within)
-
-label-words-requires : tie.Need-label-words-requires
-label-words-requires c κs = search needs
+    let unread = not-readable (c .before .before .before .sheets-of .ensures) 14503 refl (c .enum-told .given .1) .0 in
+    record { refused = λ e. (refl, refl); labelled = λ e. absurd (true≢false (sym e ∙ unread)) }
 
 same-length : tie.Need-same-length
 same-length c = search needs
@@ -44,25 +54,31 @@ same-length c = search needs
 returns-2 : tie.Need-returns-2
 returns-2 c =
     let after = c .before .before in
-    let got = after .before .before .before .before .words-of in
-    let test = after .before .before .before .before .before .before in
-    let bytes = test .before .before .before .before .args .input .now in
-    let ok : readable 29006 (length bytes) ≡ true = sym (test .before .readable .ensures) ∙ not-false _ (test .if1 .left) in
-    let n = got .result in
-    let words = got .last .1 .0 in
-    let whole : take n words ≡ wordsOf bytes = words-whole 29006 bytes _ words n ok (omega arith) (got .ensures .0) (got .ensures .1) in
-    record { refused = λ e. absurd (true≢false (sym ok ∙ e)); labelled = λ e. rw (← whole) (after .label-words .ensures) }
+    let at = after .before .before .before .before .before .before in
+    let got = at .before .before .before .sheets-of .ensures in
+    let is = at .cut .given .1 in
+    let ok = taken got 14503 refl is in
+    record {
+      refused = λ e. absurd (true≢false (sym ok ∙ e));
+      labelled = λ e. rw (← first-lent got is, ← second-lent got is) (after .label-sheets .ensures);
+    }
 
 pub answer-to-spec : {M : Type 1} → statement M
 answer-to-spec =
     tie.close
     (tie.spec
-    readable-requires
-    returns
-    slice-aggregate-words-of
-    words-of-requires
+    slice-aggregate-sheets-of
+    sheets-of-requires
+    enum-told
+    enum-known-cut
     array-share-prefix-words
-    slice-aggregate-label-words
-    label-words-requires
+    slice-aggregate-both
+    slice-aggregate-label-sheets
+    mul-label-sheets
+    sub-label-sheets
+    part-label-sheets-start
+    part-label-sheets-end
+    label-sheets-requires
+    returns
     same-length
     returns-2)

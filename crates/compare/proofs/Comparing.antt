@@ -1,0 +1,50 @@
+-- The answer to two sheets and to the bytes of standard input, from what comparison and the cut of the input say.
+use mathlib.Core.Path.{_≡_, refl, sym, ap, _∙_}
+use Prim.Native.Nat.{ℕ, _≤_}
+use native.Mathlib.Omega.{arith}
+use mathlib.Core.List.{List}
+use mathlib.Core.Bool.{true, false, true≢false}
+use lib.ListN.{length}
+use Rattle.truth.specs.Passed.{firstNo}
+use Rattle.input.specs.Bytes.{readable, wordsOf}
+use Rattle.input.specs.Cut.{firstSheet, secondSheet}
+use Rattle.comparison.specs.Comparison as Comparison
+use Rattle.comparison.specs.Answers.{comparisonQuestions, refusalOf, Leaves, CompareAnswer}
+use Rattle.comparison.specs.declared.compare.Answer.{Answer}
+use Rattle.comparison.specs.declared.compare.Answer.the-variants.{Refused, Equal, Unequal}
+use Rattle.comparison.proofs.Outcome.{never-both}
+use Rattle.compare.specs.Program.{refusal, Compared, Answered}
+
+module _ (M₁ M₂ before after : List ℕ) (room : length before ≡ 5505) where
+  by-answer : (answer : Answer) → refusalOf answer ≡ refusal M₁ M₂ → Leaves M₁ M₂ before after answer → Compared M₁ M₂ answer
+  unfolding Leaves
+  by-answer (Refused q i) e l = record {
+    asked = e;
+    refused = λ q′ i′ same. let s : q ≡ q′ = cc in omega (arith, l .0);
+    equal = λ same. absurd (let z : _≡_ {A = ℕ} 0 1 = cc in omega arith);
+    unequal = λ same. absurd (let z : _≡_ {A = ℕ} 0 1 = cc in omega arith);
+  }
+  by-answer Equal e l = record {
+    asked = e;
+    refused = λ q i same. absurd (let z : _≡_ {A = ℕ} 0 1 = cc in omega arith);
+    equal = λ same. l .0;
+    unequal = λ same. absurd (let z : _≡_ {A = ℕ} 0 1 = cc in omega arith);
+  }
+  by-answer Unequal e l = let w = l .1 in record {
+    asked = e;
+    refused = λ q i same. absurd (let z : _≡_ {A = ℕ} 0 1 = cc in omega arith);
+    equal = λ same. absurd (let z : _≡_ {A = ℕ} 0 1 = cc in omega arith);
+    unequal = λ same. never-both M₁ M₂ (l .0) (w .accepted) (w .over₁) (w .apart);
+  }
+
+  pub compared : (answer : Answer) → CompareAnswer M₁ M₂ before after answer → Compared M₁ M₂ answer
+  unfolding refusal
+  compared answer c = by-answer answer (rw room at (c .refusal)) (c .leaves)
+
+module _ (bytes : List ℕ) where
+  pub unread : readable 20000 (length bytes) ≡ false → Answered bytes (Refused 0 0)
+  unread other = record { refused = λ e. refl; compared = λ e. absurd (true≢false (sym e ∙ other)) }
+
+  pub read : readable 20000 (length bytes) ≡ true → (answer : Answer) → Compared (firstSheet (wordsOf bytes)) (secondSheet (wordsOf bytes)) answer
+      → Answered bytes answer
+  read ok answer c = record { refused = λ e. absurd (true≢false (sym ok ∙ e)); compared = λ e. c }

@@ -1,0 +1,3 @@
+-- The laws of the comparing program.
+pub mod Comparing
+pub mod PrintedLines
