@@ -25,7 +25,6 @@ impl Structure {
             sources: vec![0; nodes],
         };
         for (node, record) in records.chunks_exact(3).enumerate() {
-            let bit = 1u128 << node;
             for (signal, set) in read.signals.iter_mut().enumerate() {
                 *set |= u128::from(record[0] >> signal & 1) << node;
             }
@@ -34,8 +33,14 @@ impl Structure {
             while edge != 0 {
                 let target = usize::from(edges[2 * edge - 2]) - 1;
                 read.targets[node] |= 1 << target;
-                read.sources[target] |= bit;
                 edge = usize::from(edges[2 * edge - 1]);
+            }
+        }
+        for source in 0..nodes {
+            for target in 0..nodes {
+                if read.targets[source] >> target & 1 == 1 {
+                    read.sources[target] |= 1 << source;
+                }
             }
         }
         read

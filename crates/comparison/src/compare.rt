@@ -89,7 +89,7 @@ fn last_refusal(m1: &[u16], m2: &[u16], space: usize) -> u16
 }
 
 // The first question of a comparison that says no, for a space of so many words.
-pub fn compare_refusal(m1: &[u16], m2: &[u16], space: usize) -> Refusal
+fn compare_refusal(m1: &[u16], m2: &[u16], space: usize) -> Refusal
     ensures { λ r. ⌜ (r .question ≡ Passed.firstNo (comparisonQuestions (now (m1 .entry)) (now (m2 .entry)) space) .number) × (r .sheet ≡ Passed.firstNo (comparisonQuestions (now (m1 .entry)) (now (m2 .entry)) space) .sheet) ⌝ }
 {
     let first = header::machine_refusal(m1);

@@ -1,7 +1,7 @@
 // Comparison: equal, or unequal with the rule that tells the two machines apart.
-pub mod blocks; // blocks.rt: blocks in tables, split by sets
-pub mod signatures; // signatures.rt: the blocks that the edges of a node lead into
-pub mod refine; // refine.rt: the nodes of two machines in blocks that nothing splits
-pub mod writing; // writing.rt: the words of the written lines
-pub mod needed; // needed.rt: the lines that the last line needs
+mod blocks; // blocks.rt: blocks in tables, split by sets
+mod signatures; // signatures.rt: the blocks that the edges of a node lead into
+mod refine; // refine.rt: the nodes of two machines in blocks that nothing splits
+mod writing; // writing.rt: the words of the written lines
+mod needed; // needed.rt: the lines that the last line needs
 pub mod compare; // compare.rt: the comparison: its questions, its answer, the written rule

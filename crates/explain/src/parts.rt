@@ -71,7 +71,7 @@ fn turned(mark: u8) -> u8 {
 }
 
 // The bit of signal i.
-pub fn bit(i: u16) -> u16 {
+fn bit(i: u16) -> u16 {
     if i == 0 {
         return 0;
     }

@@ -24,7 +24,7 @@ pub enum Decoded {
 }
 
 // The words of line j from word c on are zero, and c is at most the record's length.
-pub fn unused(r: &[u16], j: u16, c: u16) -> bool
+fn unused(r: &[u16], j: u16, c: u16) -> bool
     ensures { λ b. ⌜ b ≡ Rules.unused Rules.lent (now (r .entry)) j c ⌝ }
 {
     if c > 6 {
@@ -41,7 +41,7 @@ pub fn unused(r: &[u16], j: u16, c: u16) -> bool
 }
 
 // Words c + 1 to c + n of line j refer to lines above it.
-pub fn refers_above(r: &[u16], j: u16, c: u16, n: u16) -> bool
+fn refers_above(r: &[u16], j: u16, c: u16, n: u16) -> bool
     requires { ⌜ (c ≤ 1) × (n ≤ 4) ⌝ }
     ensures { λ b. ⌜ b ≡ Rules.refersAbove Rules.lent (now (r .entry)) j c n ⌝ }
 {
@@ -60,28 +60,28 @@ pub fn refers_above(r: &[u16], j: u16, c: u16, n: u16) -> bool
 }
 
 // Question 15 of the words after the operation of a signal line.
-pub fn signal_fits(r: &[u16], j: u16) -> bool
+fn signal_fits(r: &[u16], j: u16) -> bool
     ensures { λ b. ⌜ b ≡ Rules.lineFits Rules.lent (now (r .entry)) j 0 ⌝ }
 {
     words::within(1, 16, rules::line_word(r, j, 1)) && unused(r, j, 2)
 }
 
 // Question 15 of the words after the operation of a "not".
-pub fn negation_fits(r: &[u16], j: u16) -> bool
+fn negation_fits(r: &[u16], j: u16) -> bool
     ensures { λ b. ⌜ b ≡ Rules.lineFits Rules.lent (now (r .entry)) j 1 ⌝ }
 {
     refers_above(r, j, 0, 1) && unused(r, j, 2)
 }
 
 // Question 15 of the words after the operation of an "or".
-pub fn either_fits(r: &[u16], j: u16) -> bool
+fn either_fits(r: &[u16], j: u16) -> bool
     ensures { λ b. ⌜ b ≡ Rules.lineFits Rules.lent (now (r .entry)) j 2 ⌝ }
 {
     refers_above(r, j, 0, 2) && unused(r, j, 3)
 }
 
 // Question 15 of the words after the operation of a path line.
-pub fn path_fits(r: &[u16], j: u16) -> bool
+fn path_fits(r: &[u16], j: u16) -> bool
     ensures { λ b. ⌜ b ≡ Rules.pathFits Rules.lent (now (r .entry)) j ⌝ }
 {
     let x = rules::line_word(r, j, 1);

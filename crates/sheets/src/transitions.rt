@@ -23,7 +23,7 @@ pub fn with(set: u16, i: u16) -> u16
 }
 
 // Whether a position is in the set.
-pub fn some(set: u16) -> bool
+fn some(set: u16) -> bool
     ensures { λ b. ⌜ b ≡ someBelow 16 (Words.bit set) ⌝ }
 {
     set != 0
@@ -87,7 +87,7 @@ pub struct Leaving {
 }
 
 // One transition more. Nothing is required of the accumulator of a walk, so more than 16 positions are passed over here.
-pub fn with_leaving(a: Leaving, s: Step) -> Leaving
+fn with_leaving(a: Leaving, s: Step) -> Leaving
     ensures { λ r. ⌜ LeavingTaken a s r ⌝ }
 {
     match s {
@@ -123,7 +123,7 @@ pub fn with_leaving(a: Leaving, s: Step) -> Leaving
 }
 
 // Every transition is wanted.
-pub fn leaving_left(a: Leaving, left: u16, s: Step) -> u16
+fn leaving_left(a: Leaving, left: u16, s: Step) -> u16
     ensures { λ r. ⌜ Remaining Never a left s r ⌝ }
 {
     along::left_after(left, s)

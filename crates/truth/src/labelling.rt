@@ -33,7 +33,7 @@ pub enum Labelled {
 }
 
 // The number of the first question of labelling that says no, 0 where none does, for a space of so many words.
-pub fn label_refusal(m: &[u16], r: &[u16], space: usize) -> u16
+fn label_refusal(m: &[u16], r: &[u16], space: usize) -> u16
     ensures { λ q. ⌜ q ≡ firstNo (Labelling.labelQuestions (now (m .entry)) (now (r .entry)) space) .number ⌝ }
 {
     let machine = machine::machine_refusal(m);
@@ -77,7 +77,7 @@ pub fn label_lines(m: &[u16], r: &[u16], rows: &mut [u64], upto: u16)
 }
 
 // Whether the start nodes are all in the row.
-pub fn keeps(m: &[u16], last: Row) -> bool
+fn keeps(m: &[u16], last: Row) -> bool
     requires { ⌜ Machine.nodes (now m) ≤ 128 ⌝ }
     ensures { λ b. ⌜ T b ↔ Labelling.StartsIn (now (m .entry)) (rowHas last) ⌝ }
 {
@@ -85,7 +85,7 @@ pub fn keeps(m: &[u16], last: Row) -> bool
 }
 
 // The whole percent of c among n, a half rounded up.
-pub fn percent(c: u32, n: u16) -> u32
+fn percent(c: u32, n: u16) -> u32
     requires { ⌜ (c ≤ 128) × (1 ≤ n) ⌝ }
     ensures { λ p. ⌜ p ≡ Labelling.percent c n ⌝ }
 {

@@ -109,7 +109,7 @@ pub fn solve(
 }
 
 // The nodes from which the path of line j exists; for them no times are kept.
-pub fn path_row(
+fn path_row(
     m: &[u16],
     r: &[u16],
     next: &[u64; 512],
@@ -141,7 +141,7 @@ pub fn path_row(
 }
 
 // The nodes that the row of line k has not.
-pub fn negation_row(m: &[u16], rows: &[u64], k: u16) -> Row
+fn negation_row(m: &[u16], rows: &[u64], k: u16) -> Row
     requires { ⌜ (1 ≤ k) × (2 * k ≤ length (now rows)) ⌝ }
     ensures { λ r. ⌜ ((s : ℕ) → rowHas r s ≡ (leb s (Machine.nodes (now (m .entry))) && (within 1 128 s && not (rowsHas (now (rows .entry)) (k - 1) s)))) ⌝ }
 {
@@ -150,7 +150,7 @@ pub fn negation_row(m: &[u16], rows: &[u64], k: u16) -> Row
 }
 
 // The nodes that the row of line i or that of line k has.
-pub fn either_row(m: &[u16], rows: &[u64], i: u16, k: u16) -> Row
+fn either_row(m: &[u16], rows: &[u64], i: u16, k: u16) -> Row
     requires { ⌜ ((1 ≤ i) × (2 * i ≤ length (now rows))) × ((1 ≤ k) × (2 * k ≤ length (now rows))) ⌝ }
     ensures { λ r. ⌜ ((s : ℕ) → rowHas r s ≡ (leb s (Machine.nodes (now (m .entry))) && (within 1 128 s && (rowsHas (now (rows .entry)) (i - 1) s || rowsHas (now (rows .entry)) (k - 1) s)))) ⌝ }
 {

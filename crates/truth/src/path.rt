@@ -45,14 +45,14 @@ pub struct Made {
 }
 
 // Line 0 means the last line.
-pub fn asked(r: &[u16], line: u16) -> u16
+fn asked(r: &[u16], line: u16) -> u16
     ensures { λ j. ⌜ j ≡ Path.asked (now (r .entry)) line ⌝ }
 {
     if line == 0 { rules::lines(r) } else { line }
 }
 
 // The number of the first question of a path call that says no, 0 where none does, for a list with room for so many pairs.
-pub fn path_refusal(m: &[u16], r: &[u16], line: u16, node: u16, room: usize) -> u16
+fn path_refusal(m: &[u16], r: &[u16], line: u16, node: u16, room: usize) -> u16
     ensures { λ q. ⌜ q ≡ firstNo (Path.pathQuestions (now (m .entry)) (now (r .entry)) line node room) .number ⌝ }
 {
     let machine = machine::machine_refusal(m);
@@ -75,7 +75,7 @@ pub fn path_refusal(m: &[u16], r: &[u16], line: u16, node: u16, room: usize) -> 
     0
 }
 
-pub fn q18(m: &[u16], r: &[u16], line: u16, node: u16) -> bool
+fn q18(m: &[u16], r: &[u16], line: u16, node: u16) -> bool
     ensures { λ b. ⌜ b ≡ Path.q18 (now (m .entry)) (now (r .entry)) line node ⌝ }
 {
     let j = asked(r, line);
@@ -88,7 +88,7 @@ pub fn q18(m: &[u16], r: &[u16], line: u16, node: u16) -> bool
     sheets::words::within(3, 4, rules::line_word(r, j, 0))
 }
 
-pub fn q19(m: &[u16], r: &[u16], line: u16, room: usize) -> bool
+fn q19(m: &[u16], r: &[u16], line: u16, room: usize) -> bool
     ensures { λ b. ⌜ b ≡ Path.q19 (now (m .entry)) (now (r .entry)) line room ⌝ }
 {
     let x = rules::line_word(r, asked(r, line), 1);
@@ -98,7 +98,7 @@ pub fn q19(m: &[u16], r: &[u16], line: u16, room: usize) -> bool
 }
 
 // The states at the first `count` positions of the list, by their record numbers, in the positions' place.
-pub fn named(states: [u16; 16], positions: [u16; 2048], count: u16) -> [u16; 2048]
+fn named(states: [u16; 16], positions: [u16; 2048], count: u16) -> [u16; 2048]
     requires { ⌜ (count ≤ 2048) × ((i : ℕ) → i < count → getD positions i 0 < 16) ⌝ }
     ensures { λ a. ⌜ ((i : ℕ) → i < count → getD a i 0 ≡ getD states (getD positions i 0) 0) ⌝ }
 {
@@ -113,7 +113,7 @@ pub fn named(states: [u16; 16], positions: [u16; 2048], count: u16) -> [u16; 204
 }
 
 // The list for line j, of automaton x, at node s, by the rows above it: no path where the solved line's row has not the node.
-pub fn show(
+fn show(
     m: &[u16],
     r: &[u16],
     next: &[u64; 512],
@@ -190,7 +190,7 @@ fn show_line(m: &[u16], r: &[u16], rows: &[u64], j: u16, x: u16, exchanged: bool
 }
 
 // Labels the lines above the asked one and makes the list for it, or says why there is none.
-pub fn make(m: &[u16], r: &[u16], line: u16, node: u16, room: usize) -> Made
+fn make(m: &[u16], r: &[u16], line: u16, node: u16, room: usize) -> Made
     ensures { λ a. ⌜ MadeFor (now (m .entry)) (now (r .entry)) line node room (a .nodes) (a .states) (a .answer) ⌝ }
 {
     let question = path_refusal(m, r, line, node, room);
@@ -222,7 +222,7 @@ fn wide(x: u8) -> u16
 }
 
 // Writes the first `count` nodes to the list.
-pub fn write_nodes(list: &mut [u16], from: &[u8; 2048], count: u16)
+fn write_nodes(list: &mut [u16], from: &[u8; 2048], count: u16)
     requires { ⌜ (count ≤ 2048) × (length (now from) ≡ 2048) × (count ≤ length (now list)) ⌝ }
     ensures { λ u. ⌜ now (list .exit) ≡ take count (now (from .entry)) ++ drop count (now (list .entry)) ⌝ }
 {
@@ -234,7 +234,7 @@ pub fn write_nodes(list: &mut [u16], from: &[u8; 2048], count: u16)
 }
 
 // Writes the first `count` numbers to the list.
-pub fn write_first(list: &mut [u16], from: &[u16; 2048], count: u16)
+fn write_first(list: &mut [u16], from: &[u16; 2048], count: u16)
     requires { ⌜ (count ≤ 2048) × (length (now from) ≡ 2048) × (count ≤ length (now list)) ⌝ }
     ensures { λ u. ⌜ now (list .exit) ≡ take count (now (from .entry)) ++ drop count (now (list .entry)) ⌝ }
 {

@@ -37,7 +37,7 @@ struct Targets {
     link: u64,
 }
 
-pub fn no_tail() -> Tail
+fn no_tail() -> Tail
     ensures { λ r. ⌜ (r .at ≡ 0) × ((t : ℕ) → rowHas (r .row) t ≡ false) ⌝ }
 {
     let row = Row::empty();
@@ -141,7 +141,7 @@ fn chain_row(m: &[u16], x: u16, tail: Tail) -> Row
 }
 
 // The nodes that the edges of node s lead to.
-pub fn successor_row(m: &[u16], s: u16, tail: Tail) -> Row
+fn successor_row(m: &[u16], s: u16, tail: Tail) -> Row
     requires { ⌜ TailOf (now m) tail ⌝ }
     ensures { λ r. ⌜ ((t : ℕ) → rowHas r t ≡ (within 1 128 t && Machine.kripke (now (m .entry)) .edge s t)) ⌝ }
 {
