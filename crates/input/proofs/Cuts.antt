@@ -1,18 +1,18 @@
 -- Where the first sheet ends, by cases, the two parts of the words there, and the two sheets of bytes in lent words.
-use mathlib.Core.Path.{_≡_, refl, sym}
+use mathlib.Core.Path.{_≡_, refl, sym, ap, _∙_}
 use Prim.Native.Nat.{ℕ, _-_, _*_, _/_, _≤_, _<_, min}
 use native.Mathlib.Omega.{arith}
 use mathlib.Core.List.{List, _++_}
 use mathlib.Core.Bool.{true, false}
 use lib.ListN.{length, take, drop, length-drop}
-use lib.Seq.{take-all, length-take-le}
+use lib.Seq.{take-all, length-take-le, drop-at}
 use borrow.Author.Tests.{le-leb, lt-leb}
 use Rattle.sheets.specs.Machine.{q1}
 use Rattle.input.specs.Bytes.{readable, wordsOf}
 use Rattle.input.specs.Cut.{headerEnd, firstEnd, firstSheet, secondSheet, Stand, TwoSheets, unreadable, sheets}
 use Rattle.input.specs.declared.cut.Cut.{Cut}
 use Rattle.input.specs.declared.cut.Cut.the-variants.{Unreadable, Sheets}
-use Rattle.input.proofs.WordLists.{words-whole}
+use Rattle.input.proofs.WordLists.{words-length, words-whole}
 
 module _ (words : List ℕ) where
   pub end-without-header : q1 words ≡ false → firstEnd words ≡ length words
@@ -46,7 +46,15 @@ module _ (bytes before : List ℕ) where
   two-sheets ok after count end counted is size cut reached =
       let whole : take count after ≡ wordsOf bytes = words-whole (2 * length before) bytes before after count ok (omega arith) counted is in
       let within : count ≤ length after = omega arith in
-      sheets ok (record { whole = whole; within = within; cut = rw whole at cut; ordered = omega (arith, length-take-le count after within) })
+      let head : length (take count (wordsOf bytes)) ≡ count = length-take-le count (wordsOf bytes) (omega (arith, words-length bytes)) in
+      sheets ok
+      (record {
+        whole = whole;
+        behind = ap (drop count) is ∙ drop-at (take count (wordsOf bytes)) (drop count before) count head;
+        within = within;
+        cut = rw whole at cut;
+        ordered = omega (arith, length-take-le count after within);
+      })
 
 -- ---- what a caller knows of them, with space for so many words: the bytes are not taken, or they are, and what it lends are the two sheets
 
@@ -55,7 +63,7 @@ refused : {bytes before after : List ℕ} → TwoSheets bytes before after Unrea
 refused (unreadable e) = (e, refl)
 
 stands : {bytes before after : List ℕ} {end count : ℕ} → TwoSheets bytes before after (Sheets end count)
-    → (readable (2 * length before) (length bytes) ≡ true) × Stand (wordsOf bytes) after end count
+    → (readable (2 * length before) (length bytes) ≡ true) × Stand (wordsOf bytes) before after end count
 stands (sheets e s) = (e, s)
 
 module _ {bytes before after : List ℕ} {cut : Cut} (h : TwoSheets bytes before after cut) (room : ℕ) (size : length before ≡ room) where
@@ -66,7 +74,7 @@ module _ {bytes before after : List ℕ} {cut : Cut} (h : TwoSheets bytes before
   taken e = rw size at (stands (rw e at h) .0)
 
 module _ {bytes before after : List ℕ} {cut : Cut} {end count : ℕ} (h : TwoSheets bytes before after cut) (e : cut ≡ Sheets end count) where
-  stand : Stand (wordsOf bytes) after end count
+  stand : Stand (wordsOf bytes) before after end count
   stand = stands (rw e at h) .1
 
   pub within : count ≤ length after

@@ -30,10 +30,11 @@ unfoldable pub secondSheet : List ℕ → List ℕ
 unfolding firstEnd
 secondSheet words = drop (firstEnd words) words
 
--- words that stand at the head of lent ones, up to one place, with the first sheet up to another
-pub record Stand (words lent : List ℕ) (end count : ℕ) : Type 0 where
-  pub whole : take count lent ≡ words
-  pub within : count ≤ length lent
+-- words put at the head of lent ones, up to one place, with the first sheet up to another; the lent words behind are as before
+pub record Stand (words before after : List ℕ) (end count : ℕ) : Type 0 where
+  pub whole : take count after ≡ words
+  pub behind : drop count after ≡ drop count before
+  pub within : count ≤ length after
   pub cut : end ≡ firstEnd words
   pub ordered : end ≤ count
 
@@ -41,5 +42,5 @@ pub record Stand (words lent : List ℕ) (end count : ℕ) : Type 0 where
 -- then the words are as before.
 pub data TwoSheets (bytes before : List ℕ) : List ℕ → Cut → Type 0 where
   unreadable : readable (2 * length before) (length bytes) ≡ false → TwoSheets bytes before before Unreadable
-  sheets : {after : List ℕ} {end count : ℕ} → readable (2 * length before) (length bytes) ≡ true → Stand (wordsOf bytes) after end count
+  sheets : {after : List ℕ} {end count : ℕ} → readable (2 * length before) (length bytes) ≡ true → Stand (wordsOf bytes) before after end count
       → TwoSheets bytes before after (Sheets end count)
