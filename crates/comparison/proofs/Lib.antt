@@ -35,7 +35,6 @@ pub mod Decides
 pub mod OneBlock
 pub mod ToldByLines
 pub mod MarkedMachines
-pub mod MarkedCases
 pub mod TakenLines
 pub mod EachLine
 pub mod MergedLines
