@@ -156,7 +156,12 @@ fn by_next(
         ⌝ }
 {
     let x1 = leading(m1, load(first, c as usize), load(first, d as usize), tail1);
-    let x2 = leading(m2, load(second, c as usize), load(second, d as usize), tail2);
+    let x2 = leading(
+        m2,
+        load(second, c as usize),
+        load(second, d as usize),
+        tail2,
+    );
     let p = stand.lines + 1;
     let next = Stand {
         count: stand.count,

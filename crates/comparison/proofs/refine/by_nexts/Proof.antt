@@ -40,9 +40,12 @@ loop-again : tie.Need-loop-again Inv-loop μ-loop
 loop-again c =
     let t = c .before .before .turn in
     let at = c .before .before .before .before .before .before .before in
-    let l = t .last in
-    (signalled-on _ _ (state (at .loop .first) (at .loop .second) (at .loop .line) (at .loop .words) (at .loop .so-far))
-    (state (l .1 .1 .0) (l .1 .1 .1 .0) (l .1 .1 .1 .1 .0) (l .1 .1 .1 .1 .1 .0) (t .result)) (t .ensures) (at .loop .inv .0), at .loop .inv .1, at .loop .inv .2)
+    let l = t .last in (
+      signalled-on _ _ (state (at .loop .first) (at .loop .second) (at .loop .line) (at .loop .words) (at .loop .so-far))
+          (state (l .1 .1 .0) (l .1 .1 .1 .0) (l .1 .1 .1 .1 .0) (l .1 .1 .1 .1 .1 .0) (t .result)) (t .ensures) (at .loop .inv .0),
+      at .loop .inv .1,
+      at .loop .inv .2,
+    )
 
 pub by-nexts-spec : {M : Type 1} → statement M
 by-nexts-spec =
