@@ -129,6 +129,3 @@ module _ (st st′ : State) (c p : ℕ) (x₁ x₂ : ℕ → Bool) (h : c < st .
             (c, h, λ s t. and-left (firstOf st c s) (x₁ s) (subst T (q₁ .here s) t), λ s t. and-left (secondOf st c s) (x₂ s) (subst T (q₂ .here s) t))
             (λ d l n. (d, l, λ s t. subst T (q₁ .others d s l n) t, λ s t. subst T (q₂ .others d s l n) t));
       }
-
-pub kept-then : (a b c : State) (d : ℕ) → Kept a b d → Kept b c d → Kept a c d
-kept-then a b c d f g = record { was = f .was; first = λ s. g .first s ∙ f .first s; second = λ t. g .second t ∙ f .second t }

@@ -41,11 +41,7 @@ module _ (F : Form) (R : List ℕ) (accepted : ruleRefusal F R ≡ 0) where
     unfolding q9
     initial-in = within-at 1 (states R) (initial R x) (search (and-right, each-at (automata R) _ (answers .nine) x lo hi))
 
-    -- its states are states, the initial one among them
-    pub states-in : (q : ℕ) → T (member q (statesOf R x)) → (1 ≤ q) × (q ≤ states R)
-    unfolding statesOf
-    states-in = chain-in (states R) (λ q. stateWord R q 2) state-link (states R) (initial R x) (initial-in .1)
-
+    -- its initial state is among its states
     pub initial-on : T (member (initial R x) (statesOf R x))
     unfolding statesOf
     initial-on = let h = initial-in in chain-first (states R) (λ q. stateWord R q 2) (initial R x) (omega arith) (h .0)
