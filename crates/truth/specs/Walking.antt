@@ -1,14 +1,10 @@
--- One turn of a walk through the pairs of a product: where a step leads from a pair into a set, and the pair that a turn goes on to.
-use Prim.Native.Nat.{ℕ, _+_, _*_, _<_}
+-- One turn of a walk through the pairs of a product: the pair that it goes on to.
+use Prim.Native.Nat.{ℕ, _<_}
 use mathlib.Core.List.{List}
-use mathlib.Core.Bool.{Bool, not, _&&_}
+use mathlib.Core.Bool.{not}
 use lib.Dec.{T}
 use Rattle.truth.specs.Rows.{rowsHas}
-use Rattle.truth.specs.Pairs.{edgeIn, Steps, timeOf}
-
--- a step leads from (p, u) to (k, v), which is in `set`
-abbrev pub entered : List ℕ → List ℕ → List ℕ → ℕ → ℕ → ℕ → ℕ → Bool
-entered allow next set p u k v = rowsHas allow (16 * p + k) u && (edgeIn next u v && rowsHas set k v)
+use Rattle.truth.specs.Pairs.{Steps, timeOf}
 
 -- (p′, u′) is the pair after (p, u): one of `xs` after one of `xs`, and otherwise one of `ys` with an earlier time
 pub record Advances (allow next : List ℕ) (t : ℕ) (xs ys times : List ℕ) (p u p′ u′ : ℕ) : Type 0 where

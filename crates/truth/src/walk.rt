@@ -6,7 +6,7 @@ ghost use lib.Dec.{T, ltb};
 ghost use Rattle.truth.specs.Rows.{rowHas, rowsHas, First};
 ghost use Rattle.truth.specs.Pairs.{Steps, Onward, Sooner, timeOf};
 ghost use Rattle.truth.specs.Walked.{Looped, Walkable, placed};
-ghost use Rattle.truth.specs.Walking.{entered, Advances};
+ghost use Rattle.truth.specs.Walking.{Advances};
 use crate::positions;
 use crate::rows::Row;
 use crate::tables::load;
@@ -25,26 +25,16 @@ struct Pair {
     node: u16,
 }
 
-// The nodes of row k of the set that a step leads to from (p, u).
-fn reached(allow: &[u64; 512], next: &[u64; 512], set: &[u64; 32], p: u16, u: u16, k: usize) -> Row
-    requires { ⌜ (p < 16) × (k < 16) × (1 ≤ u) × (u ≤ 128) ⌝ }
-    ensures { λ r. ⌜ ((v : ℕ) → rowHas r v ≡ entered (now (allow .entry)) (now (next .entry)) (now (set .entry)) p u k v) ⌝ }
-{
-    if !load(allow, 16 * p as usize + k).has(u) {
-        return Row::empty();
-    }
-    load(next, u as usize - 1).intersection(positions::load(set, k))
-}
-
 // A pair of the set that a step leads to from (p, u), which there is.
 fn onward(allow: &[u64; 512], next: &[u64; 512], t: usize, set: &[u64; 32], p: u16, u: u16) -> Pair
     requires { ⌜ (t ≤ 16) × (p < 16) × (1 ≤ u) × (u ≤ 128) × Onward (now allow) (now next) t (rowsHas (now set)) p u ⌝ }
     ensures { λ r. ⌜ Steps (now (allow .entry)) (now (next .entry)) t p u (r .position) (r .node) × T (rowsHas (now (set .entry)) (r .position) (r .node)) ⌝ }
 {
+    let to = load(next, u as usize - 1);
     let mut k = 0;
     while k < t {
-        let v = reached(allow, next, set, p, u, k).first();
-        if v != 0 {
+        let v = to.intersection(positions::load(set, k)).first();
+        if v != 0 && load(allow, 16 * p as usize + k).has(u) {
             return Pair {
                 position: k as u16,
                 node: v,
@@ -90,14 +80,17 @@ fn sooner(
     ensures { λ r. ⌜ Steps (now (allow .entry)) (now (next .entry)) t p u (r .position) (r .node) × T (rowsHas (now (set .entry)) (r .position) (r .node)) × (timeOf (now (times .entry)) (r .position) (r .node) < timeOf (now (times .entry)) p u) ⌝ }
 {
     let time = times[128 * p as usize + (u as usize - 1)];
+    let to = load(next, u as usize - 1);
     let mut k = 0;
     while k < t {
-        let v = earlier(reached(allow, next, set, p, u, k), k, times, time);
-        if v != 0 {
-            return Pair {
-                position: k as u16,
-                node: v,
-            };
+        if load(allow, 16 * p as usize + k).has(u) {
+            let v = earlier(to.intersection(positions::load(set, k)), k, times, time);
+            if v != 0 {
+                return Pair {
+                    position: k as u16,
+                    node: v,
+                };
+            }
         }
         k += 1;
     }

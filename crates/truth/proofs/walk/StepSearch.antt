@@ -1,6 +1,6 @@
 -- A search for a step from a pair into a set: through the positions, and through the nodes of a row for one that passes a test.
 use mathlib.Core.Path.{_≡_, refl}
-use mathlib.Core.Logic.{⊎-elim}
+use mathlib.Core.Logic.{_⊎_, ⊎-elim}
 use Prim.Native.Nat.{ℕ, _+_, _*_, _<_}
 use native.Mathlib.Omega.{arith}
 use mathlib.Core.List.{List}
@@ -10,7 +10,6 @@ use lib.Dec.{T, not-T}
 use Rattle.sheets.proofs.Tests.{passed, failed, and-left, and-right, and-both}
 use Rattle.truth.specs.Rows.{rowsHas, First}
 use Rattle.truth.specs.Pairs.{Steps, edgeIn}
-use Rattle.truth.specs.Walking.{entered}
 use Rattle.truth.proofs.rows.RowWalks.{none-left, one-left, Less, less-in, less-or}
 
 -- ---- through the nodes of a row
@@ -50,43 +49,29 @@ module _ (row rest q : ℕ → Bool) (v : ℕ) (l : Left row rest q) (f : First 
         fails i s u = rw (s, e) at u
 
 -- ---- through the positions
+module _ (allow next : List ℕ) (t p u : ℕ) where
+  -- no step from (p, u) leads to a pair of W at a position below k
+  abbrev pub NoneBelow : (ℕ → ℕ → Type 0) → ℕ → Type 0
+  NoneBelow W k = (j v : ℕ) → j < k → Steps allow next t p u j v → W j v → ⊥
 
--- nothing passes at a position below k
-abbrev pub NoneBelow : ℕ → (ℕ → ℕ → Bool) → Type 0
-NoneBelow k q = (j v : ℕ) → j < k → q j v ≡ false
+  pub none-first : (W : ℕ → ℕ → Type 0) → NoneBelow W 0
+  none-first W j v l = absurd (omega arith)
 
-pub none-first : (q : ℕ → ℕ → Bool) → NoneBelow 0 q
-none-first q j v l = absurd (omega arith)
+  -- one position more, in either case
+  pub none-next : {A B : Type 0} (W : ℕ → ℕ → Type 0) (k : ℕ) → NoneBelow W k → A ⊎ B
+      → (A → (v : ℕ) → Steps allow next t p u k v → W k v → ⊥) → (B → (v : ℕ) → Steps allow next t p u k v → W k v → ⊥) → NoneBelow W (k + 1)
+  none-next W k h came f g j v l = below-more (λ j. (v : ℕ) → Steps allow next t p u j v → W j v → ⊥) k (λ j l v. h j v l) (⊎-elim f g came) j l v
 
-pub none-next : (q : ℕ → ℕ → Bool) (k : ℕ) → NoneBelow k q → ((v : ℕ) → q k v ≡ false) → NoneBelow (k + 1) q
-none-next q k h e j v l = below-more (λ j. (v : ℕ) → q j v ≡ false) k (λ j l v. h j v l) e j l v
+  -- the automaton may not go there at u
+  pub not-allowed : (k v : ℕ) → rowsHas allow (16 * p + k) u ≡ false → Steps allow next t p u k v → ⊥
+  not-allowed k v e s = rw e at (s .allowed)
 
--- ---- steps into a set
-module _ (allow next set : List ℕ) (t p u k v : ℕ) where
-  pub entered-at : k < t → T (entered allow next set p u k v) → Steps allow next t p u k v × T (rowsHas set k v)
-  entered-at l e =
-      let more = and-right (rowsHas allow (16 * p + k) u) (edgeIn next u v && rowsHas set k v) e in (
-        record { below = l; allowed = and-left (rowsHas allow (16 * p + k) u) (edgeIn next u v && rowsHas set k v) e; moves = and-left (edgeIn next u v) (rowsHas set k v) more },
-        and-right (edgeIn next u v) (rowsHas set k v) more,
-      )
+  -- the row has the nodes of row k of a set that an edge leads to from u
+  module _ (set : List ℕ) (k : ℕ) (row : ℕ → Bool) (h : (i : ℕ) → row i ≡ (edgeIn next u i && rowsHas set k i)) where
+    pub leads-to : (v : ℕ) → k < t → rowsHas allow (16 * p + k) u ≡ true → T (row v) → Steps allow next t p u k v × T (rowsHas set k v)
+    leads-to v l e r =
+        let both : T (edgeIn next u v && rowsHas set k v) = rw (h v) at r in
+        (record { below = l; allowed = rw e tt; moves = and-left (edgeIn next u v) _ both }, and-right (edgeIn next u v) _ both)
 
-  pub entered-by : Steps allow next t p u k v → T (rowsHas set k v) → T (entered allow next set p u k v)
-  entered-by s e =
-      and-both (rowsHas allow (16 * p + k) u) (edgeIn next u v && rowsHas set k v) (s .allowed)
-      (and-both (edgeIn next u v) (rowsHas set k v) (s .moves) e)
-
-  -- the node v was found in a row that has the nodes entered
-  pub found-step : (row : ℕ → Bool) → ((i : ℕ) → row i ≡ entered allow next set p u k i) → row v ≡ true → k < t → Steps allow next t p u k v × T (rowsHas set k v)
-  found-step row h e l = let b : T (row v) = rw e tt in entered-at l (rw (h v) at b)
-
-  -- the same with a test
-  pub found-passing : (row q : ℕ → Bool) → ((i : ℕ) → row i ≡ entered allow next set p u k i) → (row v && q v) ≡ true → k < t
-      → Steps allow next t p u k v × T (rowsHas set k v) × T (q v)
-  found-passing row q h e l =
-      let b : T (row v && q v) = rw e tt in
-      let r = found-step row h (passed (row v) (and-left (row v) (q v) b)) l in
-      (r .0, r .1, and-right (row v) (q v) b)
-
--- nothing is entered that passes
-pub none-passing : (row enter q : ℕ → Bool) → ((i : ℕ) → row i ≡ enter i) → ((i : ℕ) → (row i && q i) ≡ false) → (i : ℕ) → (enter i && q i) ≡ false
-none-passing row enter q h e i = rw (← (h i)) (e i)
+    pub led-to : (v : ℕ) → Steps allow next t p u k v → T (rowsHas set k v) → T (row v)
+    led-to v s x = rw (h v) (and-both (edgeIn next u v) _ (s .moves) x)
