@@ -8,14 +8,14 @@ use mathlib.Core.Bool.{Bool, not, _&&_, _||_}
 use lib.ListN.{length}
 use lib.Dec.{T, ltb}
 use Rattle.truth.specs.Rows.{rowsHas}
-use Rattle.truth.specs.Pairs.{Steps, UpTo, Transposed, Before, Cleared, Reaches, timeOf, Timed, Sooner, weight}
+use Rattle.truth.specs.Pairs.{PairStep, UpTo, Transposed, Before, Cleared, Reaches, timeOf, Timed, Sooner, weight}
 
 -- ---- what changes
 
 -- the nodes of `f` have the time at position p where times are kept, all else its time before
-pub record Marked (f : ℕ → Bool) (p time : ℕ) (times times′ : List ℕ) : Type 0 where
+pub record TimePut (f : ℕ → Bool) (p time : ℕ) (times times′ : List ℕ) : Type 0 where
   pub size : length times′ ≡ length times
-  pub marks : Timed times → (s : ℕ) → T (f s) → timeOf times′ p s ≡ time
+  pub timed : Timed times → (s : ℕ) → T (f s) → timeOf times′ p s ≡ time
   pub rest : (q s : ℕ) → 1 ≤ s → s ≤ 128 → (q ≡ p → T (not (f s))) → timeOf times′ q s ≡ timeOf times q s
 
 -- the pairs of `e` are added: those not met before are new, and have the time where times are kept
@@ -56,7 +56,7 @@ pub record Growing (allow next : List ℕ) (n t : ℕ) (xs ys new times : List �
   pub reaches : (p s : ℕ) → p < t → T (rowsHas ys p s) → Reaches allow next t xs p s
   pub fresh : (p s : ℕ) → p < t → T (rowsHas new p s) → T (rowsHas ys p s)
   pub upTo : UpTo n t ys
-  pub done : (p s p′ s′ : ℕ) → p < t → Steps allow next t p s p′ s′ → T (rowsHas ys p′ s′) → T (rowsHas ys p s) ⊎ T (rowsHas new p′ s′)
+  pub done : (p s p′ s′ : ℕ) → p < t → PairStep allow next t p s p′ s′ → T (rowsHas ys p′ s′) → T (rowsHas ys p s) ⊎ T (rowsHas new p′ s′)
   pub falls : Timed times → (p s : ℕ) → p < t → T (rowsHas ys p s) → T (rowsHas xs p s) ⊎ Sooner allow next t ys times p s
   pub early : Timed times → (p s : ℕ) → p < t → T (rowsHas ys p s) → timeOf times p s < time
 

@@ -16,7 +16,7 @@ edgeIn next s s′ = rowsHas next (s - 1) s′
 
 -- A step from (p, s) to (p′, s′), among positions below t: row 16 p + p′ of `allow` has the nodes at which the automaton may go
 -- from p to p′ (perhaps to several positions at one node), and an edge leads from s to s′.
-pub record Steps (allow next : List ℕ) (t p s p′ s′ : ℕ) : Type 0 where
+pub record PairStep (allow next : List ℕ) (t p s p′ s′ : ℕ) : Type 0 where
   pub below : p′ < t
   pub allowed : T (rowsHas allow (16 * p + p′) s)
   pub moves : T (edgeIn next s s′)
@@ -51,7 +51,7 @@ pub record Cleared (p : ℕ) (before after : List ℕ) : Type 0 where
 -- finitely many steps lead from (p, s) into `xs`
 pub data Reaches (allow next : List ℕ) (t : ℕ) (xs : List ℕ) : ℕ → ℕ → Type 0 where
   here : {p s : ℕ} → T (rowsHas xs p s) → Reaches allow next t xs p s
-  there : {p s p′ s′ : ℕ} → Steps allow next t p s p′ s′ → Reaches allow next t xs p′ s′ → Reaches allow next t xs p s
+  there : {p s p′ s′ : ℕ} → PairStep allow next t p s p′ s′ → Reaches allow next t xs p′ s′ → Reaches allow next t xs p s
 
 -- the time at which a pair was met, in a table of 128 numbers a position
 abbrev pub timeOf : List ℕ → ℕ → ℕ → ℕ
@@ -67,21 +67,21 @@ NoTime times = (i : ℕ) → getD times i 0 ≡ 0
 
 -- a step leads from (p, s) to a pair of `set` with an earlier time
 abbrev pub Sooner : List ℕ → List ℕ → ℕ → List ℕ → List ℕ → ℕ → ℕ → Type 0
-Sooner allow next t set times p s = (p′ s′ : ℕ) × Steps allow next t p s p′ s′ × T (rowsHas set p′ s′) × (timeOf times p′ s′ < timeOf times p s)
+Sooner allow next t set times p s = (p′ s′ : ℕ) × PairStep allow next t p s p′ s′ × T (rowsHas set p′ s′) × (timeOf times p′ s′ < timeOf times p s)
 
 -- `ys` is the least set that has `xs` and every pair with a step into it; where times are kept, the time falls along some step from each
 -- other pair
 pub record Least (allow next : List ℕ) (t : ℕ) (xs ys times : List ℕ) : Type 0 where
   pub keeps : (p s : ℕ) → p < t → T (rowsHas xs p s) → T (rowsHas ys p s)
   pub reaches : (p s : ℕ) → p < t → T (rowsHas ys p s) → Reaches allow next t xs p s
-  pub closed : (p s p′ s′ : ℕ) → p < t → Steps allow next t p s p′ s′ → T (rowsHas ys p′ s′) → T (rowsHas ys p s)
+  pub closed : (p s p′ s′ : ℕ) → p < t → PairStep allow next t p s p′ s′ → T (rowsHas ys p′ s′) → T (rowsHas ys p s)
   pub falls : Timed times → (p s : ℕ) → p < t → T (rowsHas ys p s) → T (rowsHas xs p s) ⊎ Sooner allow next t ys times p s
 
 -- ---- the largest set of pairs each of which has a step into it
 
 -- a step from (p, s) leads into the set W
 abbrev pub Onward : List ℕ → List ℕ → ℕ → (ℕ → ℕ → Bool) → ℕ → ℕ → Type 0
-Onward allow next t W p s = (p′ s′ : ℕ) × Steps allow next t p s p′ s′ × T (W p′ s′)
+Onward allow next t W p s = (p′ s′ : ℕ) × PairStep allow next t p s p′ s′ × T (W p′ s′)
 
 -- every pair of W, of a position below t, has a step into W
 abbrev pub Lasts : List ℕ → List ℕ → ℕ → (ℕ → ℕ → Bool) → Type 0

@@ -8,7 +8,7 @@ use mathlib.Core.Bool.{Bool, true, false, not, _&&_, _||_}
 use lib.ListN.{length}
 use lib.Dec.{T}
 use Rattle.truth.specs.Rows.{rowsHas}
-use Rattle.truth.specs.Pairs.{Steps, UpTo, Transposed, Before, Onward, Lasts, Inside, weight}
+use Rattle.truth.specs.Pairs.{PairStep, UpTo, Transposed, Before, Onward, Lasts, Inside, weight}
 
 -- some number below t
 abbrev pub SomeBelow : ℕ → (ℕ → Type 0) → Type 0
@@ -35,7 +35,7 @@ pub record Taken (p : ℕ) (lost : ℕ → Bool) (xs gone xs′ gone′ : List �
 
 -- a step from (p, s) leads to a pair of `xs` or of `gone`
 abbrev pub Owed : List ℕ → List ℕ → ℕ → List ℕ → List ℕ → ℕ → ℕ → Type 0
-Owed allow next t xs gone p s = (p′ s′ : ℕ) × Steps allow next t p s p′ s′ × (T (rowsHas xs p′ s′) ⊎ T (rowsHas gone p′ s′))
+Owed allow next t xs gone p s = (p′ s′ : ℕ) × PairStep allow next t p s p′ s′ × (T (rowsHas xs p′ s′) ⊎ T (rowsHas gone p′ s′))
 
 -- so it is from every pair of `xs`
 abbrev pub Owing : List ℕ → List ℕ → ℕ → List ℕ → List ℕ → Type 0

@@ -8,16 +8,16 @@ ghost use lib.Dec.{eqb};
 ghost use Rattle.truth.specs.Rows.{rowHas};
 ghost use Rattle.truth.specs.Pairs.{UpTo, Transposed, NoRows, Timed, NoTime, Least};
 ghost use Rattle.truth.specs.Links.{Into};
-ghost use Rattle.truth.specs.Growing.{Marked, Spread, enters, Turn, left, Turns};
+ghost use Rattle.truth.specs.Growing.{TimePut, Spread, enters, Turn, left, Turns};
 use crate::positions;
 use crate::rows::Row;
 use crate::structure::together;
 use crate::tables::load;
 
 // Writes the time at the nodes of the row, at position p.
-fn mark(row: Row, p: usize, time: u16, times: &mut [u16])
+fn put_time(row: Row, p: usize, time: u16, times: &mut [u16])
     requires { ⌜ (p < 16) × Timed (now times) ⌝ }
-    ensures { λ r. ⌜ Marked (rowHas row) p time (now (times .entry)) (now (times .exit)) ⌝ }
+    ensures { λ r. ⌜ TimePut (rowHas row) p time (now (times .entry)) (now (times .exit)) ⌝ }
 {
     let mut rest = row;
     loop {
@@ -55,7 +55,7 @@ fn grow_one(
     if times.len() < 2048 {
         return;
     }
-    mark(extra, p, time, times);
+    put_time(extra, p, time, times);
 }
 
 // Adds the pairs with a step to a new pair at p2.

@@ -1,7 +1,7 @@
 // The machine's structure in rows, read from the lent words: the nodes with an edge into a row, the nodes of a signal, the start nodes.
 ghost use mathlib.Core.Path.{_≡_};
 ghost use mathlib.Core.Logic.{_↔_, _⊎_};
-ghost use mathlib.Core.Bool.{true, false, _&&_};
+ghost use mathlib.Core.Bool.{false, _&&_};
 ghost use Prim.Native.Nat.{ℕ, _+_, _-_, _*_, _<_, _≤_};
 ghost use lib.ListN.{length};
 ghost use lib.Dec.{T, eqb, leb};

@@ -252,7 +252,7 @@ fn goes_on(allow: &[u64; 512], table: &[u64; 32], on: Row, p: usize) -> Row
 }
 
 // Takes out of row p what has nothing ahead.
-fn start_row(
+fn trim_first_row(
     allow: &[u64; 512],
     table: &[u64; 32],
     onto: &[u64; 32],
@@ -287,7 +287,7 @@ fn trim_first(
     let table = befores(back, t, xs);
     let mut p = 0;
     while p < t {
-        start_row(allow, &table, onto, t, p, xs, gone);
+        trim_first_row(allow, &table, onto, t, p, xs, gone);
         p += 1;
     }
 }

@@ -9,7 +9,7 @@ use mathlib.Core.Bool.{Bool, not, _&&_}
 use lib.Dec.{T, T-not, not-T, eqb, ltb, lt→ltb, eqb→eq, eqb-refl}
 use Rattle.sheets.proofs.Tests.{test, contrary, twice-not, and-left, and-right, and-both, or-left, or-right, or-cases}
 use Rattle.truth.specs.Rows.{rowsHas}
-use Rattle.truth.specs.Pairs.{Steps, UpTo, Transposed, there, timeOf, Timed, Sooner}
+use Rattle.truth.specs.Pairs.{PairStep, UpTo, Transposed, there, timeOf, Timed, Sooner}
 use Rattle.truth.specs.Growing.{enters, below, Turn, left, Growing}
 use Rattle.truth.proofs.rows.RowLaws.{held-in}
 use Rattle.truth.proofs.structure.EdgesBack.{back-of, edge-of}
@@ -67,7 +67,7 @@ module _ {allow back : List ℕ} {t p′ time : ℕ} {ys new times ys′ new′ 
     e-allowed p s x = and-left (rowsHas allow (16 * p + p′) s) (turn .prev s) (and-right (ltb p t) (enters allow p′ (turn .prev) p s) x)
 
     -- a pair that is added steps to a pair that was new
-    e-step : (p s : ℕ) → T (e p s) → (u : ℕ) × Steps allow next t p s p′ u × T (rowsHas ys p′ u)
+    e-step : (p s : ℕ) → T (e p s) → (u : ℕ) × PairStep allow next t p s p′ u × T (rowsHas ys p′ u)
     e-step p s x =
         let r = turn .before s .0 (and-right (rowsHas allow (16 * p + p′) s) (turn .prev s) (and-right (ltb p t) (enters allow p′ (turn .prev) p s) x)) in
         let y = g .fresh p′ (r .0) below-t (r .1) in
@@ -75,7 +75,7 @@ module _ {allow back : List ℕ} {t p′ time : ℕ} {ys new times ys′ new′ 
         (r .0, record { below = below-t; allowed = e-allowed p s x; moves = moves }, y)
 
     -- and a pair with a step to a pair that was new is added
-    step-e : (p s s′ : ℕ) → p < t → Steps allow next t p s p′ s′ → T (rowsHas new p′ s′) → T (e p s)
+    step-e : (p s s′ : ℕ) → p < t → PairStep allow next t p s p′ s′ → T (rowsHas new p′ s′) → T (e p s)
     step-e p s s′ h st x =
         let y = g .fresh p′ s′ below-t x in
         let r = held-in _ _ s (st .allowed) in
@@ -84,7 +84,7 @@ module _ {allow back : List ℕ} {t p′ time : ℕ} {ys new times ys′ new′ 
         and-both (ltb p t) (enters allow p′ (turn .prev) p s) (lt→ltb p t h)
         (and-both (rowsHas allow (16 * p + p′) s) (turn .prev s) (st .allowed) (turn .before s .1 (s′, x, b)))
 
-    done : (p s q s′ : ℕ) → p < t → Steps allow next t p s q s′ → T (rowsHas ys′ q s′) → T (rowsHas ys′ p s) ⊎ T (rowsHas new′ q s′)
+    done : (p s q s′ : ℕ) → p < t → PairStep allow next t p s q s′ → T (rowsHas ys′ q s′) → T (rowsHas ys′ p s) ⊎ T (rowsHas new′ q s′)
     done p s q s′ h st x = ⊎-elim old fresh (test (rowsHas ys q s′))
       where
         fresh : T (not (rowsHas ys q s′)) → T (rowsHas ys′ p s) ⊎ T (rowsHas new′ q s′)

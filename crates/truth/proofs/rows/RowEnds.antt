@@ -1,11 +1,11 @@
 -- The lowest and the highest node of a row: the lowest set bit of the lower word that has one, the highest of the upper.
-use mathlib.Core.Path.{_≡_, refl, subst, _∙_}
+use mathlib.Core.Path.{_≡_, refl, _∙_}
 use mathlib.Core.Logic.{_⊎_, inl, inr, ⊎-elim}
-use Prim.Native.Nat.{ℕ, zero, suc, _+_, _-_, _*_, _/_, _%_, _^_, _≤_, _<_}
+use Prim.Native.Nat.{ℕ, zero, suc, _+_, _-_, _/_, _%_, _^_, _≤_, _<_}
 use native.Mathlib.Nat.{pow-succ', div-eq-of-lt-le}
 use native.Mathlib.Omega.{arith}
 use mathlib.Core.Bool.{true}
-use lib.Dec.{T, eqb}
+use lib.Dec.{T}
 use lib.Count.{trailingZeros, leadingZeros, leading-top}
 use Rattle.sheets.specs.Words.{bit}
 use Rattle.sheets.proofs.Search.{le-or-gt}

@@ -6,9 +6,9 @@ use mathlib.Core.Bool.{_&&_}
 use lib.Dec.{T}
 use Rattle.truth.specs.Rows.{rowHas, rowsHas}
 use Rattle.truth.specs.Pairs.{edgeIn}
-use Rattle.truth.proofs.walk.StepSearch.{NoneBelow, none-first, none-next, not-allowed, leads-to, led-to}
-use Rattle.truth.proofs.walk.onward.Statement.{statement}
-use Rattle.truth.proofs.walk.onward.Tie as tie
+use Rattle.truth.proofs.trail.StepSearch.{NoneBelow, none-first, none-next, not-allowed, leads-to, led-to}
+use Rattle.truth.proofs.trail.onward.Statement.{statement}
+use Rattle.truth.proofs.trail.onward.Tie as tie
 
 abbrev Inv-loop : tie.InvT-loop
 Inv-loop allow next t set p u to k₀ k = NoneBelow allow next t p u (λ j v. T (rowsHas set j v)) k

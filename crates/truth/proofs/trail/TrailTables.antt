@@ -1,4 +1,4 @@
--- The list of pairs that a walk makes in three arrays: the nodes and the positions by place, from 1, and the places by pair, 128 a position.
+-- The list of pairs that a trail makes in three arrays: the nodes and the positions by place, from 1, and the places by pair, 128 a position.
 use mathlib.Core.Path.{_≡_, _∙_}
 use mathlib.Core.Logic.{_⊎_, inl, inr, by-cases}
 use Prim.Native.Nat.{ℕ, suc, _+_, _-_, _*_, _≤_, _<_}
@@ -12,12 +12,11 @@ use lib.ListN.{length, getD, set, length-set}
 use lib.Seq.{getD-set-same, getD-set-other}
 use Rattle.truth.specs.Rows.{rowsHas}
 use Rattle.truth.specs.Pairs.{timeOf}
-use Rattle.truth.specs.Walked.{placed, Looped, Walkable}
-use Rattle.truth.specs.Walking.{Advances}
+use Rattle.truth.specs.Trails.{placed, Looped, Traceable, Advances}
 use Rattle.truth.proofs.tables.TableLaws.{time-here, time-other}
-use Rattle.truth.proofs.walk.WalkTurns.{in-places}
-use Rattle.truth.proofs.walk.WalkedPairs.{Listed, room, next-places}
-use Rattle.truth.proofs.walk.WalkedLoops.{Further, listed-more, closed}
+use Rattle.truth.proofs.trail.TrailTurns.{in-places}
+use Rattle.truth.proofs.trail.TrailPairs.{Listed, room, next-places}
+use Rattle.truth.proofs.trail.TrailLoops.{Further, listed-more, closed}
 
 -- ---- a store by place
 module _ (xs : List ℕ) (len x : ℕ) (l : len < length xs) where
@@ -39,7 +38,7 @@ further nodes positions places len q v a b lo hi l = record {
   place-other = time-other places q v (suc len) lo hi;
 }
 
--- the arrays of a walk whose last pair is (p, u)
+-- the arrays of a trail whose last pair is (p, u)
 pub record Listing (allow next : List ℕ) (t : ℕ) (xs ys times : List ℕ) (s : ℕ) (nodes positions places : List ℕ) (len p u : ℕ) : Type 0 where
   pub nodes-size : length nodes ≡ 2048
   pub positions-size : length positions ≡ 2048
@@ -48,7 +47,7 @@ pub record Listing (allow next : List ℕ) (t : ℕ) (xs ys times : List ℕ) (s
   pub last-node : placed nodes len ≡ u
   pub last-position : placed positions len ≡ p
 
-module _ {allow next : List ℕ} {t n : ℕ} {xs ys times : List ℕ} {s : ℕ} (w : Walkable allow next t n xs ys times s) where
+module _ {allow next : List ℕ} {t n : ℕ} {xs ys times : List ℕ} {s : ℕ} (w : Traceable allow next t n xs ys times s) where
   pub start-range : (1 ≤ s) × (s ≤ 128)
   start-range = let r = in-places w 0 s (w .some) (w .found) in (r .1, r .2)
 

@@ -1,4 +1,4 @@
--- The list of pairs that a walk makes, by the functions of the pair at a place and of the place of a pair: no pair is there twice, so at
+-- The list of pairs that a trail makes, by the functions of the pair at a place and of the place of a pair: no pair is there twice, so at
 -- most n t fit.
 use mathlib.Core.Path.{_≡_}
 use mathlib.Core.Logic.{_⊎_, ⊎-elim}
@@ -11,12 +11,11 @@ use lib.Dec.{T}
 use Rattle.sheets.proofs.Search.{le-or-gt}
 use Rattle.sheets.proofs.Pigeonhole.{pigeonhole, pair, pair-below, pair-first, pair-second}
 use Rattle.truth.specs.Rows.{rowsHas}
-use Rattle.truth.specs.Pairs.{Steps, timeOf}
-use Rattle.truth.specs.Walked.{Walkable}
-use Rattle.truth.specs.Walking.{Advances}
-use Rattle.truth.proofs.walk.WalkTurns.{in-range, in-places}
+use Rattle.truth.specs.Pairs.{PairStep, timeOf}
+use Rattle.truth.specs.Trails.{Traceable, Advances}
+use Rattle.truth.proofs.trail.TrailTurns.{in-range, in-places}
 
--- Places 1 to `len` of a walk from (0, s), and `place`, which has the place of each pair that is listed, and 0 for another: after a pair
+-- Places 1 to `len` of a trail from (0, s), and `place`, which has the place of each pair that is listed, and 0 for another: after a pair
 -- of `xs` all are of `xs`, and a pair that is not has an earlier time than all before it.
 pub record Listed (allow next : List ℕ) (t : ℕ) (xs ys times : List ℕ) (s : ℕ) (node position : ℕ → ℕ) (place : ℕ → ℕ → ℕ) (len : ℕ) : Type 0 where
   pub some : 1 ≤ len
@@ -24,7 +23,7 @@ pub record Listed (allow next : List ℕ) (t : ℕ) (xs ys times : List ℕ) (s 
   pub begins : position 1 ≡ 0
   pub below : (i : ℕ) → 1 ≤ i → i ≤ len → position i < t
   pub inside : (i : ℕ) → 1 ≤ i → i ≤ len → T (rowsHas ys (position i) (node i))
-  pub steps : (i : ℕ) → 1 ≤ i → i < len → Steps allow next t (position i) (node i) (position (suc i)) (node (suc i))
+  pub steps : (i : ℕ) → 1 ≤ i → i < len → PairStep allow next t (position i) (node i) (position (suc i)) (node (suc i))
   pub listed : (i : ℕ) → 1 ≤ i → i ≤ len → place (position i) (node i) ≡ i
   pub places : (q v : ℕ) → 1 ≤ v → v ≤ 128 → (place q v ≡ 0) ⊎ ((1 ≤ place q v) × (place q v ≤ len) × (position (place q v) ≡ q) × (node (place q v) ≡ v))
   pub lasting : (i k : ℕ) → 1 ≤ i → i ≤ k → k ≤ len → T (rowsHas xs (position i) (node i)) → T (rowsHas xs (position k) (node k))
@@ -62,7 +61,7 @@ front : ℕ → (ℕ → ℕ) → ℕ → ℕ
 front x f zero = x
 front x f (suc i) = f (suc i)
 
-module _ {allow next : List ℕ} {t n : ℕ} {xs ys times : List ℕ} {s : ℕ} (w : Walkable allow next t n xs ys times s)
+module _ {allow next : List ℕ} {t n : ℕ} {xs ys times : List ℕ} {s : ℕ} (w : Traceable allow next t n xs ys times s)
     {node position : ℕ → ℕ} {place : ℕ → ℕ → ℕ} {len : ℕ} (h : Listed allow next t xs ys times s node position place len) where
   pub once : (i k : ℕ) → 1 ≤ i → i < k → k ≤ len → node i ≡ node k → position i ≡ position k → ⊥
   once i k l m o a b =

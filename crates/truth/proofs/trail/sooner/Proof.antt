@@ -1,5 +1,5 @@
 -- `sooner` meets its contract. The invariant: no step leads to an earlier pair of the set at a position below k. The measure is what is left of t.
-use mathlib.Core.Path.{_≡_, sym, _∙_}
+use mathlib.Core.Path.{sym, _∙_}
 use Prim.Native.Nat.{ℕ, _-_, _<_}
 use native.Mathlib.Omega.{arith}
 use mathlib.Core.Bool.{_&&_}
@@ -8,9 +8,9 @@ use lib.Dec.{T, ltb, ltb→lt, lt→ltb}
 use Rattle.sheets.proofs.Tests.{and-left, and-right, and-both}
 use Rattle.truth.specs.Rows.{rowHas, rowsHas}
 use Rattle.truth.specs.Pairs.{timeOf}
-use Rattle.truth.proofs.walk.StepSearch.{NoneBelow, none-first, none-next, not-allowed, leads-to, led-to}
-use Rattle.truth.proofs.walk.sooner.Statement.{statement}
-use Rattle.truth.proofs.walk.sooner.Tie as tie
+use Rattle.truth.proofs.trail.StepSearch.{NoneBelow, none-first, none-next, not-allowed, leads-to, led-to}
+use Rattle.truth.proofs.trail.sooner.Statement.{statement}
+use Rattle.truth.proofs.trail.sooner.Tie as tie
 
 -- the pairs that are looked for
 abbrev Early : List ℕ → List ℕ → ℕ → ℕ → ℕ → ℕ → Type 0

@@ -1,4 +1,4 @@
--- The list of pairs that a walk makes, after one pair more, and the loop that a pair closes that is listed already.
+-- The list of pairs that a trail makes, after one pair more, and the loop that a pair closes that is listed already.
 use mathlib.Core.Path.{_≡_, refl, sym, _∙_}
 use mathlib.Core.Logic.{_⊎_, inr, ⊎-elim, ⊎-map, by-cases}
 use Prim.Native.Nat.{ℕ, suc, _≤_, _<_}
@@ -10,10 +10,9 @@ use lib.Dec.{T}
 use Rattle.sheets.proofs.Tests.{contrary, surely}
 use Rattle.sheets.proofs.Search.{le-or-gt}
 use Rattle.truth.specs.Rows.{rowsHas}
-use Rattle.truth.specs.Pairs.{Steps, timeOf}
-use Rattle.truth.specs.Walked.{Looped, Walkable}
-use Rattle.truth.specs.Walking.{Advances}
-use Rattle.truth.proofs.walk.WalkedPairs.{Listed, once, range, fits, next-places, apart}
+use Rattle.truth.specs.Pairs.{PairStep, timeOf}
+use Rattle.truth.specs.Trails.{Looped, Traceable, Advances}
+use Rattle.truth.proofs.trail.TrailPairs.{Listed, once, range, fits, next-places, apart}
 
 -- the functions of the list after the pair (q, v) is listed at the place after `len`
 pub record Further (node position : ℕ → ℕ) (place : ℕ → ℕ → ℕ) (len q v : ℕ) (node′ position′ : ℕ → ℕ) (place′ : ℕ → ℕ → ℕ) : Type 0 where
@@ -24,7 +23,7 @@ pub record Further (node position : ℕ → ℕ) (place : ℕ → ℕ → ℕ) (
   pub position-other : (i : ℕ) → 1 ≤ i → i ≤ len → position′ i ≡ position i
   pub place-other : (p u : ℕ) → 1 ≤ u → u ≤ 128 → (p ≡ q → u ≡ v → ⊥) → place′ p u ≡ place p u
 
-module _ {allow next : List ℕ} {t n : ℕ} {xs ys times : List ℕ} {s : ℕ} (w : Walkable allow next t n xs ys times s)
+module _ {allow next : List ℕ} {t n : ℕ} {xs ys times : List ℕ} {s : ℕ} (w : Traceable allow next t n xs ys times s)
     {node position : ℕ → ℕ} {place : ℕ → ℕ → ℕ} {len : ℕ} (h : Listed allow next t xs ys times s node position place len)
     {q v : ℕ} (g : Advances allow next t xs ys times (position len) (node len) q v) where
   -- a pair that is not listed
@@ -80,7 +79,7 @@ module _ {allow next : List ℕ} {t n : ℕ} {xs ys times : List ℕ} {s : ℕ} 
       below = each (λ i p u. p < t) (h .below) (g .steps .below);
       inside = each (λ i p u. T (rowsHas ys p u)) (h .inside) (g .inside);
       steps = λ i l m. rw (f .position-other i l (omega arith), f .node-other i l (omega arith))
-          (each (λ k p u. k ≡ suc i → Steps allow next t (position i) (node i) p u) (λ k a b e. rw e (h .steps i l (omega arith)))
+          (each (λ k p u. k ≡ suc i → PairStep allow next t (position i) (node i) p u) (λ k a b e. rw e (h .steps i l (omega arith)))
           (λ e. let d : i ≡ len = omega arith in rw d (g .steps)) (suc i) (omega arith) m refl);
       listed = each (λ i p u. place′ p u ≡ i) (λ i l m. place-before i l m ∙ h .listed i l m) (f .place-here);
       places = place-now;

@@ -1,12 +1,10 @@
-// A walk through the pairs of a product that shows a path: down the times into the lasting set, and there until a pair comes back.
-ghost use mathlib.Core.Path.{_≡_};
+// A trail through the pairs of a product that shows a path: down the times into the lasting set, and there until a pair comes back.
 ghost use mathlib.Core.Bool.{_&&_};
 ghost use Prim.Native.Nat.{ℕ, _+_, _-_, _*_, _<_, _≤_};
 ghost use lib.Dec.{T, ltb};
 ghost use Rattle.truth.specs.Rows.{rowHas, rowsHas, First};
-ghost use Rattle.truth.specs.Pairs.{Steps, Onward, Sooner, timeOf};
-ghost use Rattle.truth.specs.Walked.{Looped, Walkable, placed};
-ghost use Rattle.truth.specs.Walking.{Advances};
+ghost use Rattle.truth.specs.Pairs.{PairStep, Onward, Sooner, timeOf};
+ghost use Rattle.truth.specs.Trails.{Looped, Traceable, placed, Advances};
 use crate::positions;
 use crate::rows::Row;
 use crate::tables::load;
@@ -28,7 +26,7 @@ struct Pair {
 // A pair of the set that a step leads to from (p, u), which there is.
 fn onward(allow: &[u64; 512], next: &[u64; 512], t: usize, set: &[u64; 32], p: u16, u: u16) -> Pair
     requires { ⌜ (t ≤ 16) × (p < 16) × (1 ≤ u) × (u ≤ 128) × Onward (now allow) (now next) t (rowsHas (now set)) p u ⌝ }
-    ensures { λ r. ⌜ Steps (now (allow .entry)) (now (next .entry)) t p u (r .position) (r .node) × T (rowsHas (now (set .entry)) (r .position) (r .node)) ⌝ }
+    ensures { λ r. ⌜ PairStep (now (allow .entry)) (now (next .entry)) t p u (r .position) (r .node) × T (rowsHas (now (set .entry)) (r .position) (r .node)) ⌝ }
 {
     let to = load(next, u as usize - 1);
     let mut k = 0;
@@ -77,7 +75,7 @@ fn sooner(
     u: u16,
 ) -> Pair
     requires { ⌜ (t ≤ 16) × (p < 16) × (1 ≤ u) × (u ≤ 128) × Sooner (now allow) (now next) t (now set) (now times) p u ⌝ }
-    ensures { λ r. ⌜ Steps (now (allow .entry)) (now (next .entry)) t p u (r .position) (r .node) × T (rowsHas (now (set .entry)) (r .position) (r .node)) × (timeOf (now (times .entry)) (r .position) (r .node) < timeOf (now (times .entry)) p u) ⌝ }
+    ensures { λ r. ⌜ PairStep (now (allow .entry)) (now (next .entry)) t p u (r .position) (r .node) × T (rowsHas (now (set .entry)) (r .position) (r .node)) × (timeOf (now (times .entry)) (r .position) (r .node) < timeOf (now (times .entry)) p u) ⌝ }
 {
     let time = times[128 * p as usize + (u as usize - 1)];
     let to = load(next, u as usize - 1);
@@ -111,7 +109,7 @@ fn advance(
     p: u16,
     u: u16,
 ) -> Pair
-    requires { ⌜ ((n s : ℕ) × Walkable (now allow) (now next) t n (now xs) (now ys) (now times) s) × (p < t) × T (rowsHas (now ys) p u) ⌝ }
+    requires { ⌜ ((n s : ℕ) × Traceable (now allow) (now next) t n (now xs) (now ys) (now times) s) × (p < t) × T (rowsHas (now ys) p u) ⌝ }
     ensures { λ r. ⌜ Advances (now (allow .entry)) (now (next .entry)) t (now (xs .entry)) (now (ys .entry)) (now (times .entry)) p u (r .position) (r .node) ⌝ }
 {
     if positions::load(xs, p as usize).has(u) {
@@ -121,7 +119,7 @@ fn advance(
 }
 
 // From the pair (0, s) on each pair is listed, until one comes that is listed already.
-pub fn walk<'a>(
+pub fn trace<'a>(
     allow: &'a [u64; 512],
     next: &[u64; 512],
     t: usize,
@@ -131,7 +129,7 @@ pub fn walk<'a>(
     times: &'a [u16; 2048],
     s: u16,
 ) -> Trail
-    requires { ⌜ Walkable (now allow) (now next) t n (now xs) (now ys) (now times) s ⌝ }
+    requires { ⌜ Traceable (now allow) (now next) t n (now xs) (now ys) (now times) s ⌝ }
     ensures { λ r. ⌜ Looped (now (allow .entry)) (now (next .entry)) t n (now (xs .entry)) s (placed (r .nodes)) (placed (r .positions)) (r .length) (r .back) ⌝ }
 {
     let mut nodes = [0u8; 2048];

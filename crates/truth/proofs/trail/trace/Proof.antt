@@ -1,11 +1,11 @@
--- `walk` meets its contract. The invariant: the pairs so far are listed, and (p, u) is the last of them. The measure is how many more could be listed.
+-- `trace` meets its contract. The invariant: the pairs so far are listed, and (p, u) is the last of them. The measure is how many more could be listed.
 use Prim.Native.Nat.{ℕ, _-_, _*_, _≤_, _<_}
 use native.Mathlib.Omega.{arith}
 use lib.ListN.{replicate, length-replicate}
 use Rattle.truth.proofs.tables.TableLaws.{zero-word}
-use Rattle.truth.proofs.walk.WalkedTables.{Listing, start-range, listing-first, listing-below, listing-inside, listing-range, listing-closed, listing-room, listing-more}
-use Rattle.truth.proofs.walk.walk.Statement.{statement}
-use Rattle.truth.proofs.walk.walk.Tie as tie
+use Rattle.truth.proofs.trail.TrailTables.{Listing, start-range, listing-first, listing-below, listing-inside, listing-range, listing-closed, listing-room, listing-more}
+use Rattle.truth.proofs.trail.trace.Statement.{statement}
+use Rattle.truth.proofs.trail.trace.Tie as tie
 
 abbrev Inv-loop : tie.InvT-loop
 Inv-loop allow next t n xs ys times s nodes₀ positions₀ places₀ len₀ p₀ u₀ nodes positions places len p u =
@@ -104,8 +104,8 @@ loop-less c = omega (arith, room c)
 loop-again : tie.Need-loop-again Inv-loop μ-loop
 loop-again c = listing-more (c .before .before .before .pre) (c .before .before .loop .inv) (c .before .advance .ensures) (c .if1 .left)
 
-pub walk-spec : {M : Type 1} → statement M
-walk-spec =
+pub trace-spec : {M : Type 1} → statement M
+trace-spec =
     tie.close
     (tie.spec
     Inv-loop

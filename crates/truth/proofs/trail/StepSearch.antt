@@ -9,7 +9,7 @@ use borrow.Author.Count.{below-more}
 use lib.Dec.{T, not-T}
 use Rattle.sheets.proofs.Tests.{passed, failed, and-left, and-right, and-both}
 use Rattle.truth.specs.Rows.{rowsHas, First}
-use Rattle.truth.specs.Pairs.{Steps, edgeIn}
+use Rattle.truth.specs.Pairs.{PairStep, edgeIn}
 use Rattle.truth.proofs.rows.RowWalks.{none-left, one-left, Less, less-in, less-or}
 
 -- ---- through the nodes of a row
@@ -52,26 +52,26 @@ module _ (row rest q : ℕ → Bool) (v : ℕ) (l : Left row rest q) (f : First 
 module _ (allow next : List ℕ) (t p u : ℕ) where
   -- no step from (p, u) leads to a pair of W at a position below k
   abbrev pub NoneBelow : (ℕ → ℕ → Type 0) → ℕ → Type 0
-  NoneBelow W k = (j v : ℕ) → j < k → Steps allow next t p u j v → W j v → ⊥
+  NoneBelow W k = (j v : ℕ) → j < k → PairStep allow next t p u j v → W j v → ⊥
 
   pub none-first : (W : ℕ → ℕ → Type 0) → NoneBelow W 0
   none-first W j v l = absurd (omega arith)
 
   -- one position more, in either case
   pub none-next : {A B : Type 0} (W : ℕ → ℕ → Type 0) (k : ℕ) → NoneBelow W k → A ⊎ B
-      → (A → (v : ℕ) → Steps allow next t p u k v → W k v → ⊥) → (B → (v : ℕ) → Steps allow next t p u k v → W k v → ⊥) → NoneBelow W (k + 1)
-  none-next W k h came f g j v l = below-more (λ j. (v : ℕ) → Steps allow next t p u j v → W j v → ⊥) k (λ j l v. h j v l) (⊎-elim f g came) j l v
+      → (A → (v : ℕ) → PairStep allow next t p u k v → W k v → ⊥) → (B → (v : ℕ) → PairStep allow next t p u k v → W k v → ⊥) → NoneBelow W (k + 1)
+  none-next W k h came f g j v l = below-more (λ j. (v : ℕ) → PairStep allow next t p u j v → W j v → ⊥) k (λ j l v. h j v l) (⊎-elim f g came) j l v
 
   -- the automaton may not go there at u
-  pub not-allowed : (k v : ℕ) → rowsHas allow (16 * p + k) u ≡ false → Steps allow next t p u k v → ⊥
+  pub not-allowed : (k v : ℕ) → rowsHas allow (16 * p + k) u ≡ false → PairStep allow next t p u k v → ⊥
   not-allowed k v e s = rw e at (s .allowed)
 
   -- the row has the nodes of row k of a set that an edge leads to from u
   module _ (set : List ℕ) (k : ℕ) (row : ℕ → Bool) (h : (i : ℕ) → row i ≡ (edgeIn next u i && rowsHas set k i)) where
-    pub leads-to : (v : ℕ) → k < t → rowsHas allow (16 * p + k) u ≡ true → T (row v) → Steps allow next t p u k v × T (rowsHas set k v)
+    pub leads-to : (v : ℕ) → k < t → rowsHas allow (16 * p + k) u ≡ true → T (row v) → PairStep allow next t p u k v × T (rowsHas set k v)
     leads-to v l e r =
         let both : T (edgeIn next u v && rowsHas set k v) = rw (h v) at r in
         (record { below = l; allowed = rw e tt; moves = and-left (edgeIn next u v) _ both }, and-right (edgeIn next u v) _ both)
 
-    pub led-to : (v : ℕ) → Steps allow next t p u k v → T (rowsHas set k v) → T (row v)
+    pub led-to : (v : ℕ) → PairStep allow next t p u k v → T (rowsHas set k v) → T (row v)
     led-to v s x = rw (h v) (and-both (edgeIn next u v) _ (s .moves) x)

@@ -6,9 +6,9 @@ use Rattle.sheets.proofs.Counting.{number}
 use Rattle.truth.specs.Rows.{rowHas}
 use Rattle.truth.specs.Pairs.{timeOf}
 use Rattle.truth.proofs.rows.RowWalks.{one-left, one-within, less-falls}
-use Rattle.truth.proofs.walk.StepSearch.{Left, left-all, left-none, left-found, left-out}
-use Rattle.truth.proofs.walk.earlier.Statement.{statement}
-use Rattle.truth.proofs.walk.earlier.Tie as tie
+use Rattle.truth.proofs.trail.StepSearch.{Left, left-all, left-none, left-found, left-out}
+use Rattle.truth.proofs.trail.earlier.Statement.{statement}
+use Rattle.truth.proofs.trail.earlier.Tie as tie
 
 abbrev Inv-loop : tie.InvT-loop
 Inv-loop k times time rest₀ rest = Left (rowHas rest₀) (rowHas rest) (λ v. ltb (timeOf times k v) time)

@@ -3,9 +3,9 @@ use mathlib.Core.Path.{_≡_, refl, sym, _∙_}
 use native.Mathlib.Omega.{arith}
 use Rattle.truth.specs.Rows.{rowsHas}
 use Rattle.truth.proofs.tables.TableLaws.{loaded}
-use Rattle.truth.proofs.walk.WalkTurns.{in-places, goes-onward, goes-sooner, advances-onward, advances-sooner}
-use Rattle.truth.proofs.walk.advance.Statement.{statement}
-use Rattle.truth.proofs.walk.advance.Tie as tie
+use Rattle.truth.proofs.trail.TrailTurns.{in-places, goes-onward, goes-sooner, advances-onward, advances-sooner}
+use Rattle.truth.proofs.trail.advance.Statement.{statement}
+use Rattle.truth.proofs.trail.advance.Tie as tie
 
 -- whether the pair is in the lasting set
 lasting : (c : tie.After-has) → rowsHas (c .before .before .args .xs .now) (c .before .before .args .p) (c .before .before .args .u) ≡ c .has .result

@@ -1,4 +1,4 @@
--- `start_row` meets its contract: what is taken out has nothing ahead.
+-- `trim_first_row` meets its contract: what is taken out has nothing ahead.
 use mathlib.Core.Path.{_≡_, _∙_}
 use Prim.Native.Nat.{ℕ, _+_, _*_}
 use mathlib.Core.Bool.{not, _&&_}
@@ -7,8 +7,8 @@ use Rattle.truth.specs.Rows.{rowHas, rowsHas}
 use Rattle.truth.proofs.tables.LinkedSets.{among-below, below-among}
 use Rattle.truth.proofs.trimming.TrimSteps.{Through}
 use Rattle.truth.proofs.trimming.TrimStart.{started-next}
-use Rattle.truth.proofs.trimming.start_row.Statement.{statement}
-use Rattle.truth.proofs.trimming.start_row.Tie as tie
+use Rattle.truth.proofs.trimming.trim_first_row.Statement.{statement}
+use Rattle.truth.proofs.trimming.trim_first_row.Tie as tie
 
 goes-on-requires : tie.Need-goes-on-requires
 goes-on-requires c κs =
@@ -52,7 +52,7 @@ returns c =
       (k .size ∙ start .pre .2, k .size-gone ∙ start .pre .3),
     )
 
-pub start-row-spec : {M : Type 1} → statement M
-start-row-spec =
+pub trim-first-row-spec : {M : Type 1} → statement M
+trim-first-row-spec =
     tie.close
     (tie.spec load-requires goes-on-requires load-requires-2 difference-requires take-out-requires returns)

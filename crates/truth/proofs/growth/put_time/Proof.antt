@@ -1,21 +1,21 @@
--- `mark` meets its contract. The invariant: the nodes walked have the time, and all else is as it was. The measure is how many nodes are left.
+-- `put_time` meets its contract. The invariant: the nodes seen have the time, and all else is as it was. The measure is how many nodes are left.
 use native.Mathlib.Omega.{arith}
 use Rattle.sheets.proofs.Counting.{number}
 use Rattle.truth.specs.Rows.{rowHas}
 use Rattle.truth.proofs.rows.RowLaws.{held-in}
 use Rattle.truth.proofs.rows.RowWalks.{none-left, one-left, one-within, less-falls}
-use Rattle.truth.proofs.growth.RowMarks.{Marking, marking-none, marking-all, marking-more}
-use Rattle.truth.proofs.growth.mark.Statement.{statement}
-use Rattle.truth.proofs.growth.mark.Tie as tie
+use Rattle.truth.proofs.growth.RowTimes.{Putting, putting-none, putting-all, putting-more}
+use Rattle.truth.proofs.growth.put_time.Statement.{statement}
+use Rattle.truth.proofs.growth.put_time.Tie as tie
 
 abbrev Inv-loop : tie.InvT-loop
-Inv-loop p time times₀ rest₀ times rest = Marking (rowHas rest₀) (rowHas rest) p time times₀ times
+Inv-loop p time times₀ rest₀ times rest = Putting (rowHas rest₀) (rowHas rest) p time times₀ times
 
 abbrev μ-loop : tie.MeasureT-loop
 μ-loop p time times₀ rest₀ times rest = number 128 (rowHas rest)
 
 loop-holds : tie.Need-loop-holds Inv-loop μ-loop
-loop-holds c = marking-none _ (held-in _ _) _ _ _
+loop-holds c = putting-none _ (held-in _ _) _ _ _
 
 first-requires : tie.Need-first-requires Inv-loop μ-loop
 first-requires c κs = omega arith
@@ -24,7 +24,7 @@ same-length : tie.Need-same-length Inv-loop μ-loop
 same-length c = c .before .before .loop .inv .size
 
 returns : tie.Need-returns Inv-loop μ-loop
-returns c = marking-all _ (held-in _ _) _ _ _ _ _ (c .before .before .loop .inv) (none-left _ _ (c .before .first .ensures) (c .if1 .taken))
+returns c = putting-all _ (held-in _ _) _ _ _ _ _ (c .before .before .loop .inv) (none-left _ _ (c .before .first .ensures) (c .if1 .taken))
 
 mul-times : tie.Need-mul-times Inv-loop μ-loop
 mul-times c = omega arith
@@ -59,10 +59,10 @@ loop-again c =
     let u = c .before .before .first .ensures in
     let n = c .before .if1 .left in
     let m = c .before .before .before .loop .inv in
-    marking-more _ (held-in _ _) _ _ _ _ _ _ _ m (one-left _ _ u n) (c .without .ensures) (omega (arith, one-within _ _ _ u n, m .size))
+    putting-more _ (held-in _ _) _ _ _ _ _ _ _ m (one-left _ _ u n) (c .without .ensures) (omega (arith, one-within _ _ _ u n, m .size))
 
-pub mark-spec : {M : Type 1} → statement M
-mark-spec =
+pub put-time-spec : {M : Type 1} → statement M
+put-time-spec =
     tie.close
     (tie.spec
     Inv-loop
