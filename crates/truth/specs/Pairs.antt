@@ -8,17 +8,18 @@ use mathlib.Core.Bool.{Bool, not, _&&_}
 use lib.ListN.{length, getD}
 use lib.Dec.{T, eqb, leb}
 use Rattle.sheets.specs.Words.{within, indicator, sum}
+use Rattle.truth.specs.Sizes.{membersMost, cell, pairsMost, pairAt}
 use Rattle.truth.specs.Rows.{rowsHas}
 
 -- an edge leads from s to s′, in a table that has the successors of node s at row s - 1
 abbrev pub edgeIn : List ℕ → ℕ → ℕ → Bool
 edgeIn next s s′ = rowsHas next (s - 1) s′
 
--- A step from (p, s) to (p′, s′), among positions below t: row 16 p + p′ of `allow` has the nodes at which the automaton may go
+-- A step from (p, s) to (p′, s′), among positions below t: row `cell p p′` of `allow` has the nodes at which the automaton may go
 -- from p to p′ (perhaps to several positions at one node), and an edge leads from s to s′.
 pub record PairStep (allow next : List ℕ) (t p s p′ s′ : ℕ) : Type 0 where
   pub below : p′ < t
-  pub allowed : T (rowsHas allow (16 * p + p′) s)
+  pub allowed : T (rowsHas allow (cell p p′) s)
   pub moves : T (edgeIn next s s′)
 
 -- every row of the first t has nodes 1 to n alone
@@ -27,7 +28,7 @@ UpTo n t ys = (p s : ℕ) → p < t → T (rowsHas ys p s) → s ≤ n
 
 -- row u - 1 of `back` has, among nodes 1 to n, those that an edge leads from to u
 abbrev pub Transposed : ℕ → List ℕ → List ℕ → Type 0
-Transposed n next back = (s u : ℕ) → 1 ≤ u → u ≤ n → rowsHas back (u - 1) s ≡ (leb s n && (within 1 128 s && edgeIn next s u))
+Transposed n next back = (s u : ℕ) → 1 ≤ u → u ≤ n → rowsHas back (u - 1) s ≡ (leb s n && (within 1 membersMost s && edgeIn next s u))
 
 -- s is among what row u - 1 of `back` has, for a u of the row
 abbrev pub Before : List ℕ → (ℕ → Bool) → ℕ → Type 0
@@ -53,13 +54,13 @@ pub data Reaches (allow next : List ℕ) (t : ℕ) (xs : List ℕ) : ℕ → ℕ
   here : {p s : ℕ} → T (rowsHas xs p s) → Reaches allow next t xs p s
   there : {p s p′ s′ : ℕ} → PairStep allow next t p s p′ s′ → Reaches allow next t xs p′ s′ → Reaches allow next t xs p s
 
--- the time at which a pair was met, in a table of 128 numbers a position
+-- the time at which a pair was met, in a table of numbers by pair
 abbrev pub timeOf : List ℕ → ℕ → ℕ → ℕ
-timeOf times p s = getD times (128 * p + (s - 1)) 0
+timeOf times p s = getD times (pairAt p s) 0
 
--- there is room for the time of every pair of 16 positions
+-- there is room for the time of every pair
 abbrev pub Timed : List ℕ → Type 0
-Timed times = 2048 ≤ length times
+Timed times = pairsMost ≤ length times
 
 -- every time is 0
 abbrev pub NoTime : List ℕ → Type 0
@@ -106,4 +107,4 @@ weigh x g = 2 * indicator x + indicator g
 -- what the pairs of positions below t count
 unfoldable pub weight : ℕ → (ℕ → ℕ → Bool) → (ℕ → ℕ → Bool) → ℕ
 unfolding sum weigh
-weight t x g = sum t (λ q. sum 128 (λ s. weigh (x (q - 1) s) (g (q - 1) s)))
+weight t x g = sum t (λ q. sum membersMost (λ s. weigh (x (q - 1) s) (g (q - 1) s)))

@@ -5,6 +5,7 @@ use mathlib.Core.List.{List}
 use mathlib.Core.Bool.{not}
 use lib.ListN.{getD}
 use lib.Dec.{T}
+use Rattle.truth.specs.Sizes.{nodesMost, positionsMost, tableRows}
 use Rattle.truth.specs.Rows.{rowsHas}
 use Rattle.truth.specs.Pairs.{PairStep, UpTo, timeOf, Timed, Least, Lasts}
 
@@ -23,10 +24,10 @@ pub record Looped (allow next : List ℕ) (t n : ℕ) (xs : List ℕ) (s : ℕ) 
 
 -- the tables that a trail goes by, of nodes 1 to n: a lasting set, and the pairs that reach it with their times
 pub record Traceable (allow next : List ℕ) (t n : ℕ) (xs ys times : List ℕ) (s : ℕ) : Type 0 where
-  pub few : t ≤ 16
-  pub nodes : n ≤ 128
+  pub few : t ≤ positionsMost
+  pub nodes : n ≤ nodesMost
   pub some : 1 ≤ t
-  pub allow-up : UpTo n 256 allow
+  pub allow-up : UpTo n tableRows allow
   pub xs-up : UpTo n t xs
   pub lasts : Lasts allow next t (rowsHas xs)
   pub least : Least allow next t xs ys times

@@ -1,4 +1,5 @@
 // Truth: labelling and paths.
+pub mod sizes; // sizes.rt: the sizes of rows and tables
 pub mod rows; // rows.rt: a set of nodes as a value
 pub mod structure; // structure.rt: the machine's structure in rows
 pub mod tables; // tables.rt: tables of rows

@@ -9,6 +9,7 @@ use lib.ListN.{length}
 use lib.Dec.{T, T-not, not-T, eqb, eqb→eq}
 use Rattle.sheets.specs.Words.{each}
 use Rattle.sheets.proofs.Tests.{failed, and-left, and-right, and-both, eqb-same, eqb-other}
+use Rattle.truth.specs.Sizes.{membersMost}
 use Rattle.truth.specs.Rows.{held, rowsHas}
 use Rattle.truth.specs.Pairs.{timeOf, Timed}
 use Rattle.truth.specs.Growing.{TimePut, Spread}
@@ -51,7 +52,7 @@ module _ (E x : ℕ → Bool) (p time : ℕ) (ys new times ys′ new′ times′
 
 -- nothing to add
 module _ (E : ℕ → Bool) (a b p time : ℕ) (ys new times : List ℕ) (x-is : (s : ℕ) → held a b s ≡ (E s && not (rowsHas ys p s))) where
-  pub spread-empty : true ≡ each 128 (λ s. not (held a b s)) → Spread (λ q s. eqb q p && E s) time ys new times ys new times
+  pub spread-empty : true ≡ each membersMost (λ s. not (held a b s)) → Spread (λ q s. eqb q p && E s) time ys new times ys new times
   spread-empty e =
       spread-one E (held a b) p time ys new times ys new times x-is refl refl (λ q s. unchanged (rowsHas ys q s) q s) (λ q s. unchanged (rowsHas new q s) q s)
       (record { size = refl; timed = λ h s t. absurd (rw (gone s) at t); rest = λ q s lo hi n. refl })

@@ -1,13 +1,14 @@
 -- A search for a step from a pair into a set: through the positions, and through the nodes of a row for one that passes a test.
 use mathlib.Core.Path.{_≡_, refl}
 use mathlib.Core.Logic.{_⊎_, ⊎-elim}
-use Prim.Native.Nat.{ℕ, _+_, _*_, _<_}
+use Prim.Native.Nat.{ℕ, _+_, _<_}
 use native.Mathlib.Omega.{arith}
 use mathlib.Core.List.{List}
 use mathlib.Core.Bool.{Bool, true, false, _&&_}
 use borrow.Author.Count.{below-more}
 use lib.Dec.{T, not-T}
 use Rattle.sheets.proofs.Tests.{passed, failed, and-left, and-right, and-both}
+use Rattle.truth.specs.Sizes.{cell}
 use Rattle.truth.specs.Rows.{rowsHas, First}
 use Rattle.truth.specs.Pairs.{PairStep, edgeIn}
 use Rattle.truth.proofs.rows.RowWalks.{none-left, one-left, Less, less-in, less-or}
@@ -63,12 +64,12 @@ module _ (allow next : List ℕ) (t p u : ℕ) where
   none-next W k h came f g j v l = below-more (λ j. (v : ℕ) → PairStep allow next t p u j v → W j v → ⊥) k (λ j l v. h j v l) (⊎-elim f g came) j l v
 
   -- the automaton may not go there at u
-  pub not-allowed : (k v : ℕ) → rowsHas allow (16 * p + k) u ≡ false → PairStep allow next t p u k v → ⊥
+  pub not-allowed : (k v : ℕ) → rowsHas allow (cell p k) u ≡ false → PairStep allow next t p u k v → ⊥
   not-allowed k v e s = rw e at (s .allowed)
 
   -- the row has the nodes of row k of a set that an edge leads to from u
   module _ (set : List ℕ) (k : ℕ) (row : ℕ → Bool) (h : (i : ℕ) → row i ≡ (edgeIn next u i && rowsHas set k i)) where
-    pub leads-to : (v : ℕ) → k < t → rowsHas allow (16 * p + k) u ≡ true → T (row v) → PairStep allow next t p u k v × T (rowsHas set k v)
+    pub leads-to : (v : ℕ) → k < t → rowsHas allow (cell p k) u ≡ true → T (row v) → PairStep allow next t p u k v × T (rowsHas set k v)
     leads-to v l e r =
         let both : T (edgeIn next u v && rowsHas set k v) = rw (h v) at r in
         (record { below = l; allowed = rw e tt; moves = and-left (edgeIn next u v) _ both }, and-right (edgeIn next u v) _ both)

@@ -9,6 +9,7 @@ use mathlib.Core.Bool.{not}
 use lib.Dec.{T}
 use Rattle.sheets.proofs.Tests.{contrary, surely}
 use Rattle.sheets.proofs.Search.{le-or-gt}
+use Rattle.truth.specs.Sizes.{membersMost}
 use Rattle.truth.specs.Rows.{rowsHas}
 use Rattle.truth.specs.Pairs.{PairStep, timeOf}
 use Rattle.truth.specs.Trails.{Looped, Traceable, Advances}
@@ -21,7 +22,7 @@ pub record Further (node position : ℕ → ℕ) (place : ℕ → ℕ → ℕ) (
   pub place-here : place′ q v ≡ suc len
   pub node-other : (i : ℕ) → 1 ≤ i → i ≤ len → node′ i ≡ node i
   pub position-other : (i : ℕ) → 1 ≤ i → i ≤ len → position′ i ≡ position i
-  pub place-other : (p u : ℕ) → 1 ≤ u → u ≤ 128 → (p ≡ q → u ≡ v → ⊥) → place′ p u ≡ place p u
+  pub place-other : (p u : ℕ) → 1 ≤ u → u ≤ membersMost → (p ≡ q → u ≡ v → ⊥) → place′ p u ≡ place p u
 
 module _ {allow next : List ℕ} {t n : ℕ} {xs ys times : List ℕ} {s : ℕ} (w : Traceable allow next t n xs ys times s)
     {node position : ℕ → ℕ} {place : ℕ → ℕ → ℕ} {len : ℕ} (h : Listed allow next t xs ys times s node position place len)
@@ -48,7 +49,7 @@ module _ {allow next : List ℕ} {t n : ℕ} {xs ys times : List ℕ} {s : ℕ} 
         let less = g .falls out in
         ⊎-elim (λ o. let e : i ≡ len = omega arith in rw e less) (λ o. omega (arith, less, h .falls i len l o (omega arith) out)) (le-or-gt len i)
 
-    place-now : (p u : ℕ) → 1 ≤ u → u ≤ 128 → (place′ p u ≡ 0) ⊎ ((1 ≤ place′ p u) × (place′ p u ≤ suc len) × (position′ (place′ p u) ≡ p) × (node′ (place′ p u) ≡ u))
+    place-now : (p u : ℕ) → 1 ≤ u → u ≤ membersMost → (place′ p u ≡ 0) ⊎ ((1 ≤ place′ p u) × (place′ p u ≤ suc len) × (position′ (place′ p u) ≡ p) × (node′ (place′ p u) ≡ u))
     place-now p u lo hi = by-cases (ℕ-discrete p q) (λ a. by-cases (ℕ-discrete u v) (same a) (λ b. other (λ c d. b d))) (λ a. other (λ c d. a c))
       where
         Now : ℕ → Type 0

@@ -10,6 +10,7 @@ use mathlib.Core.Bool.{not}
 use lib.Dec.{T}
 use Rattle.sheets.proofs.Search.{le-or-gt}
 use Rattle.sheets.proofs.Pigeonhole.{pigeonhole, pair, pair-below, pair-first, pair-second}
+use Rattle.truth.specs.Sizes.{positionsMost, membersMost}
 use Rattle.truth.specs.Rows.{rowsHas}
 use Rattle.truth.specs.Pairs.{PairStep, timeOf}
 use Rattle.truth.specs.Trails.{Traceable, Advances}
@@ -25,7 +26,7 @@ pub record Listed (allow next : List ℕ) (t : ℕ) (xs ys times : List ℕ) (s 
   pub inside : (i : ℕ) → 1 ≤ i → i ≤ len → T (rowsHas ys (position i) (node i))
   pub steps : (i : ℕ) → 1 ≤ i → i < len → PairStep allow next t (position i) (node i) (position (suc i)) (node (suc i))
   pub listed : (i : ℕ) → 1 ≤ i → i ≤ len → place (position i) (node i) ≡ i
-  pub places : (q v : ℕ) → 1 ≤ v → v ≤ 128 → (place q v ≡ 0) ⊎ ((1 ≤ place q v) × (place q v ≤ len) × (position (place q v) ≡ q) × (node (place q v) ≡ v))
+  pub places : (q v : ℕ) → 1 ≤ v → v ≤ membersMost → (place q v ≡ 0) ⊎ ((1 ≤ place q v) × (place q v ≤ len) × (position (place q v) ≡ q) × (node (place q v) ≡ v))
   pub lasting : (i k : ℕ) → 1 ≤ i → i ≤ k → k ≤ len → T (rowsHas xs (position i) (node i)) → T (rowsHas xs (position k) (node k))
   pub falls : (i k : ℕ) → 1 ≤ i → i < k → k ≤ len → T (not (rowsHas xs (position k) (node k)))
       → timeOf times (position k) (node k) < timeOf times (position i) (node i)
@@ -81,7 +82,7 @@ module _ {allow next : List ℕ} {t n : ℕ} {xs ys times : List ℕ} {s : ℕ} 
     next-range : (1 ≤ v) × (v ≤ n)
     next-range = in-range w q v (g .steps .below) (g .inside)
 
-    pub next-places : (q < 16) × (1 ≤ v) × (v ≤ 128)
+    pub next-places : (q < positionsMost) × (1 ≤ v) × (v ≤ membersMost)
     next-places = in-places w q v (g .steps .below) (g .inside)
 
     -- it is not listed

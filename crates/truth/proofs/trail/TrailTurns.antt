@@ -6,6 +6,7 @@ use native.Mathlib.Omega.{arith}
 use mathlib.Core.List.{List}
 use mathlib.Core.Bool.{true, false}
 use lib.Dec.{T, T-not}
+use Rattle.truth.specs.Sizes.{positionsMost, membersMost}
 use Rattle.truth.specs.Rows.{rowsHas}
 use Rattle.truth.specs.Pairs.{PairStep, Onward, timeOf, Sooner}
 use Rattle.truth.specs.Trails.{Traceable, Advances}
@@ -17,7 +18,7 @@ module _ {allow next : List ℕ} {t n : ℕ} {xs ys times : List ℕ} {s : ℕ} 
   pub in-range : T (rowsHas ys p u) → (1 ≤ u) × (u ≤ n)
   in-range i = (held-in _ _ u i .0, reaches-up allow next t n xs (w .few) (w .allow-up) (w .xs-up) l (w .least .reaches p u l i))
 
-  pub in-places : T (rowsHas ys p u) → (p < 16) × (1 ≤ u) × (u ≤ 128)
+  pub in-places : T (rowsHas ys p u) → (p < positionsMost) × (1 ≤ u) × (u ≤ membersMost)
   in-places i = let r = in-range i in (omega (arith, w .few), r .0, omega (arith, w .nodes, r .1))
 
   pub goes-onward : rowsHas xs p u ≡ true → Onward allow next t (rowsHas xs) p u

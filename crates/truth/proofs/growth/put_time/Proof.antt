@@ -1,6 +1,7 @@
 -- `put_time` meets its contract. The invariant: the nodes seen have the time, and all else is as it was. The measure is how many nodes are left.
 use native.Mathlib.Omega.{arith}
 use Rattle.sheets.proofs.Counting.{number}
+use Rattle.truth.specs.Sizes.{membersMost}
 use Rattle.truth.specs.Rows.{rowHas}
 use Rattle.truth.proofs.rows.RowLaws.{held-in}
 use Rattle.truth.proofs.rows.RowWalks.{none-left, one-left, one-within, less-falls}
@@ -12,7 +13,7 @@ abbrev Inv-loop : tie.InvT-loop
 Inv-loop p time times₀ rest₀ times rest = Putting (rowHas rest₀) (rowHas rest) p time times₀ times
 
 abbrev μ-loop : tie.MeasureT-loop
-μ-loop p time times₀ rest₀ times rest = number 128 (rowHas rest)
+μ-loop p time times₀ rest₀ times rest = number membersMost (rowHas rest)
 
 loop-holds : tie.Need-loop-holds Inv-loop μ-loop
 loop-holds c = putting-none _ (held-in _ _) _ _ _

@@ -3,6 +3,7 @@ use native.Mathlib.Omega.{arith}
 use borrow.Author.Tests.{lt-ltb, le-ltb}
 use lib.Dec.{ltb}
 use Rattle.sheets.proofs.Counting.{number}
+use Rattle.truth.specs.Sizes.{membersMost}
 use Rattle.truth.specs.Rows.{rowHas}
 use Rattle.truth.specs.Pairs.{timeOf}
 use Rattle.truth.proofs.rows.RowWalks.{one-left, one-within, less-falls}
@@ -14,7 +15,7 @@ abbrev Inv-loop : tie.InvT-loop
 Inv-loop k times time rest₀ rest = Left (rowHas rest₀) (rowHas rest) (λ v. ltb (timeOf times k v) time)
 
 abbrev μ-loop : tie.MeasureT-loop
-μ-loop k times time rest₀ rest = number 128 (rowHas rest)
+μ-loop k times time rest₀ rest = number membersMost (rowHas rest)
 
 loop-holds : tie.Need-loop-holds Inv-loop μ-loop
 loop-holds c = left-all _ _

@@ -2,6 +2,7 @@
 use Prim.Native.Nat.{ℕ, _-_, _*_, _≤_, _<_}
 use native.Mathlib.Omega.{arith}
 use lib.ListN.{replicate, length-replicate}
+use Rattle.truth.specs.Sizes.{positionsMost, membersMost, pairsMost}
 use Rattle.truth.proofs.tables.TableLaws.{zero-word}
 use Rattle.truth.proofs.trail.TrailTables.{Listing, start-range, listing-first, listing-below, listing-inside, listing-range, listing-closed, listing-room, listing-more}
 use Rattle.truth.proofs.trail.trace.Statement.{statement}
@@ -16,11 +17,11 @@ abbrev μ-loop : tie.MeasureT-loop
     n * t - len
 
 -- a pair that is not listed has room
-room : (c : tie.Else1 Inv-loop μ-loop) → (c .before .before .loop .len < c .before .before .before .args .n * c .before .before .before .args .t) × (c .before .before .loop .len < 2048)
+room : (c : tie.Else1 Inv-loop μ-loop) → (c .before .before .loop .len < c .before .before .before .args .n * c .before .before .before .args .t) × (c .before .before .loop .len < pairsMost)
 room c = listing-room (c .before .before .before .pre) (c .before .before .loop .inv) (c .before .advance .ensures) (c .if1 .left)
 
 -- the pair after the last
-range : (c : tie.After-advance Inv-loop μ-loop) → (c .advance .result .position < 16) × (1 ≤ c .advance .result .node) × (c .advance .result .node ≤ 128)
+range : (c : tie.After-advance Inv-loop μ-loop) → (c .advance .result .position < positionsMost) × (1 ≤ c .advance .result .node) × (c .advance .result .node ≤ membersMost)
 range c = listing-range (c .before .before .pre) (c .before .loop .inv) (c .advance .ensures)
 
 cast-nodes : tie.Need-cast-nodes Inv-loop μ-loop
@@ -39,7 +40,7 @@ array-write-places : tie.Need-array-write-places Inv-loop μ-loop
 array-write-places c = omega (arith, start-range (c .pre))
 
 loop-holds : tie.Need-loop-holds Inv-loop μ-loop
-loop-holds c = listing-first (c .pre) (replicate 2048 0) (length-replicate {A = ℕ} 2048 0) (zero-word 2048)
+loop-holds c = listing-first (c .pre) (replicate pairsMost 0) (length-replicate {A = ℕ} pairsMost 0) (zero-word pairsMost)
 
 advance-requires : tie.Need-advance-requires Inv-loop μ-loop
 advance-requires c κs =

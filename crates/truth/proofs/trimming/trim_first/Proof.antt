@@ -4,13 +4,14 @@ use mathlib.Core.Path.{_≡_, _∙_}
 use Prim.Native.Nat.{_≤_, _-_}
 use native.Mathlib.Omega.{arith}
 use lib.ListN.{length}
+use Rattle.truth.specs.Sizes.{setWords}
 use Rattle.truth.specs.Trimmed.{Started}
 use Rattle.truth.proofs.trimming.TrimStart.{started-none}
 use Rattle.truth.proofs.trimming.trim_first.Statement.{statement}
 use Rattle.truth.proofs.trimming.trim_first.Tie as tie
 
 abbrev Inv-loop : tie.InvT-loop
-Inv-loop allow back onto t xs₀ gone₀ table p₀ xs gone p = (p ≤ t) × (length gone ≡ 32) × Started allow back t p xs₀ xs gone
+Inv-loop allow back onto t xs₀ gone₀ table p₀ xs gone p = (p ≤ t) × (length gone ≡ setWords) × Started allow back t p xs₀ xs gone
 
 abbrev μ-loop : tie.MeasureT-loop
 μ-loop allow back onto t xs₀ gone₀ table p₀ xs gone p = t - p

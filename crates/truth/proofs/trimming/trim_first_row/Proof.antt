@@ -1,8 +1,9 @@
 -- `trim_first_row` meets its contract: what is taken out has nothing ahead.
 use mathlib.Core.Path.{_≡_, _∙_}
-use Prim.Native.Nat.{ℕ, _+_, _*_}
+use Prim.Native.Nat.{ℕ}
 use mathlib.Core.Bool.{not, _&&_}
 use native.Mathlib.Omega.{arith}
+use Rattle.truth.specs.Sizes.{cell}
 use Rattle.truth.specs.Rows.{rowHas, rowsHas}
 use Rattle.truth.proofs.tables.LinkedSets.{among-below, below-among}
 use Rattle.truth.proofs.trimming.TrimSteps.{Through}
@@ -46,8 +47,8 @@ returns c =
       λ back first is g.
           started-next (a .table .now) (rowHas (on .result)) is
           (λ s. (
-            λ t. among-below (λ p q. 16 * p + q) (pre .4) (a .p) (through s) (onward s .0 t),
-            λ r. onward s .1 (below-among (λ p q. 16 * p + q) (pre .4) (a .p) (through s) (pre .0) (λ q x. (s, x .0)) r),
+            λ t. among-below cell (pre .4) (a .p) (through s) (onward s .0 t),
+            λ r. onward s .1 (below-among cell (pre .4) (a .p) (through s) (pre .0) (λ q x. (s, x .0)) r),
           )) lost k g,
       (k .size ∙ start .pre .2, k .size-gone ∙ start .pre .3),
     )
