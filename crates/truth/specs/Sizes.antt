@@ -1,25 +1,22 @@
 -- The sizes of rows and tables, and where things stand in them. The code has them in sizes.rt.
 use Prim.Native.Nat.{ℕ, _+_, _-_, _*_}
+use Rattle.sheets.specs.Format.{nodesMost, chainedMost}
 
--- the most nodes of a machine
-abbrev pub nodesMost : ℕ
-nodesMost = 128
-
--- the most states on one automaton's chain, so that positions are 0 to 15
+-- the positions on an automaton's chain, from 0
 abbrev pub positionsMost : ℕ
-positionsMost = 16
+positionsMost = chainedMost
 
 -- ---- rows
 
--- the bits of a word of a row, its words, and its members, which are 1 to 128
-abbrev pub wordBits : ℕ
-wordBits = 64
+-- the bits of a word of a row, its words, and its members, from 1
+abbrev pub rowWordBits : ℕ
+rowWordBits = 64
 
 abbrev pub rowWords : ℕ
 rowWords = 2
 
 abbrev pub membersMost : ℕ
-membersMost = rowWords * wordBits
+membersMost = rowWords * rowWordBits
 
 -- the words of row k of a table, rows from 0
 abbrev pub lowAt : ℕ → ℕ

@@ -5,7 +5,8 @@ use mathlib.Core.List.{List}
 use mathlib.Core.Bool.{not}
 use lib.ListN.{getD}
 use lib.Dec.{T}
-use Rattle.truth.specs.Sizes.{nodesMost, positionsMost, tableRows}
+use Rattle.sheets.specs.Format.{nodesMost}
+use Rattle.truth.specs.Sizes.{positionsMost, tableRows}
 use Rattle.truth.specs.Rows.{rowsHas}
 use Rattle.truth.specs.Pairs.{PairStep, UpTo, timeOf, Timed, Least, Lasts}
 

@@ -12,13 +12,13 @@ ghost use Rattle.truth.specs.Links.{Into};
 ghost use Rattle.truth.specs.Growing.{TimePut, Spread, enters, Turn, lastTime, left, Turns};
 use crate::positions;
 use crate::rows::Row;
-use crate::sizes::NODES;
 use crate::sizes::PAIRS;
 use crate::sizes::POSITIONS;
 use crate::sizes::SET_WORDS;
 use crate::sizes::TABLE_WORDS;
 use crate::structure::together;
 use crate::tables::load;
+use sheets::format::NODES;
 
 // Writes the time at the nodes of the row, at position p.
 fn put_time(row: Row, p: usize, time: u16, times: &mut [u16])

@@ -9,7 +9,7 @@ ghost use Rattle.truth.specs.Rows.{rowHas, tally, First, Last};
 use crate::sizes::HIGH_FIRST;
 use crate::sizes::LOW_LAST;
 use crate::sizes::MEMBERS;
-use crate::sizes::WORD_BITS;
+use crate::sizes::ROW_WORD_BITS;
 
 // A set of nodes 1 to 128.
 pub struct Row {
@@ -124,10 +124,10 @@ impl Row {
         ensures { λ r. ⌜ First (rowHas self) r ⌝ }
     {
         if self.low != 0 {
-            return (u64::trailing_zeros(self.low) % WORD_BITS) as u16 + 1;
+            return (u64::trailing_zeros(self.low) % ROW_WORD_BITS) as u16 + 1;
         }
         if self.high != 0 {
-            return (u64::trailing_zeros(self.high) % WORD_BITS) as u16 + HIGH_FIRST;
+            return (u64::trailing_zeros(self.high) % ROW_WORD_BITS) as u16 + HIGH_FIRST;
         }
         0
     }
@@ -137,10 +137,10 @@ impl Row {
         ensures { λ r. ⌜ Last (rowHas self) r ⌝ }
     {
         if self.high != 0 {
-            return MEMBERS - (u64::leading_zeros(self.high) % WORD_BITS) as u16;
+            return MEMBERS - (u64::leading_zeros(self.high) % ROW_WORD_BITS) as u16;
         }
         if self.low != 0 {
-            return LOW_LAST - (u64::leading_zeros(self.low) % WORD_BITS) as u16;
+            return LOW_LAST - (u64::leading_zeros(self.low) % ROW_WORD_BITS) as u16;
         }
         0
     }

@@ -8,12 +8,12 @@ ghost use Rattle.truth.specs.Pairs.{PairStep, Onward, Sooner, timeOf};
 ghost use Rattle.truth.specs.Trails.{Looped, Traceable, placed, Advances};
 use crate::positions;
 use crate::rows::Row;
-use crate::sizes::NODES;
 use crate::sizes::PAIRS;
 use crate::sizes::POSITIONS;
 use crate::sizes::SET_WORDS;
 use crate::sizes::TABLE_WORDS;
 use crate::tables::load;
+use sheets::format::NODES;
 
 // The pairs of the list, by node and position, their number, and the place that the last one goes back to; places count from 1.
 // A node fits a byte. The number stands between the arrays, so that each of them is moved by itself.
