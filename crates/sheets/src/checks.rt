@@ -5,7 +5,7 @@ ghost use Rattle.sheets.specs.Questions.{firstNo};
 ghost use Rattle.sheets.specs.Machine as Machine;
 ghost use Rattle.sheets.specs.Rules as Rules;
 ghost use Rattle.sheets.specs.Sheets as Sheets;
-ghost use Rattle.sheets.specs.Answers.{Answered};
+ghost use Rattle.sheets.specs.CheckAnswers.{Answered};
 use crate::automata;
 use crate::condition;
 use crate::lines;

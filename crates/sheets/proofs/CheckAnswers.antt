@@ -3,7 +3,7 @@ use mathlib.Core.Path.{_≡_, refl, sym, ap, _∙_}
 use Prim.Native.Nat.{ℕ}
 use mathlib.Core.List.{List}
 use Rattle.sheets.specs.Questions.{Refusal, none, Question, firstNo}
-use Rattle.sheets.specs.Answers.{refusalOf, Answered}
+use Rattle.sheets.specs.CheckAnswers.{refusalOf, Answered}
 use Rattle.sheets.specs.declared.checks.Check.{Check}
 use Rattle.sheets.specs.declared.checks.Check.the-variants.{Accepted, Refused}
 use Rattle.sheets.proofs.Questions.{Numbered, PutTo, first-has, none-found}
