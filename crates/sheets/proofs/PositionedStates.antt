@@ -181,6 +181,10 @@ module _ (F : Form) (R : List ℕ) (accepted : ruleRefusal F R ≡ 0) (x : ℕ) 
     once = same-position;
   }
 
+pub positioned-first : (R : List ℕ) (x : ℕ) → positioned R x .initial ≡ 1
+unfolding positioned
+positioned-first R x = refl
+
 -- ---- a sheet that is lent has few states and variables
 
 module _ (R : List ℕ) (accepted : ruleRefusal lent R ≡ 0) (x : ℕ) (lo : 1 ≤ x) (hi : x ≤ automata R) where

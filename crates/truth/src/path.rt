@@ -10,7 +10,6 @@ ghost use Rattle.sheets.specs.Machine as Machine;
 ghost use Rattle.sheets.specs.Rules as Rules;
 ghost use Rattle.truth.specs.OneLine.{Ready, PathReady};
 ghost use Rattle.truth.specs.Rows.{rowsHas};
-ghost use Rattle.truth.specs.Product.{good, stateAt};
 ghost use Rattle.truth.specs.Lists.{Lasso};
 ghost use Rattle.truth.specs.Walked.{placed};
 ghost use Rattle.truth.specs.Path as Path;
@@ -20,12 +19,11 @@ use crate::labelling::label_lines;
 use crate::labelling::sheet_of;
 use crate::lines::solve;
 use crate::positions::load;
-use crate::product::chain_states;
 use crate::structure;
 use crate::walk::walk;
-use sheets::automata;
 use sheets::checks;
 use sheets::machine;
+use sheets::position;
 use sheets::rules;
 
 // The answer: refused by a question, with the number of the machine sheet for questions 1 to 6; no path; or a path of so many pairs,
@@ -93,7 +91,7 @@ fn q19(m: &[u16], r: &[u16], line: u16, room: usize) -> bool
 {
     let x = rules::line_word(r, asked(r, line), 1);
     let n = machine::nodes(m) as usize;
-    let t = automata::chain_length(r, x) as usize;
+    let t = position::state_count(r, x) as usize;
     n * t <= room
 }
 
@@ -127,7 +125,10 @@ fn show(
     requires { ⌜ (PathReady (now m) (now r) (now next) (now back) (now rows) j x) × ((1 ≤ s) × (s ≤ Machine.nodes (now m))) ⌝ }
     ensures { λ a. ⌜ ShowsLine (now (m .entry)) (now (r .entry)) (now (rows .entry)) j x exchanged s (a .nodes) (a .states) (a .answer) ⌝ }
 {
-    let solved = solve(m, r, next, back, rows, j, x, exchanged);
+    let a = position::by_position(r, x);
+    let t = a.count;
+    let numbers = a.numbers;
+    let solved = solve(m, r, next, back, rows, j, a, exchanged);
     let row = load(&solved.reached, 0);
     if !row.has(s) {
         return Made {
@@ -136,7 +137,6 @@ fn show(
             states: [0u16; 2048],
         };
     }
-    let t = automata::chain_length(r, x);
     let n = machine::nodes(m);
     let found = walk(
         &solved.allow,
@@ -150,7 +150,7 @@ fn show(
     );
     let positions = found.positions;
     let length = found.length;
-    let states = named(chain_states(r, x, t), positions, length);
+    let states = named(numbers, positions, length);
     let nodes = found.nodes;
     Made {
         nodes: nodes,

@@ -8,18 +8,18 @@ use native.Mathlib.Nat.{mul-le-mul-left}
 use mathlib.Core.List.{List, [], _∷_, _++_}
 use mathlib.Core.Bool.{Bool, true, false, not, _&&_}
 use borrow.Author.Tests.{le-leb, lt-leb, not-true, not-false}
-use lib.ListN.{length}
 use lib.Dec.{T, leb}
 use Rattle.sheets.specs.Words.{within}
 use Rattle.sheets.specs.Questions.{Question, ask, firstNo}
 use Rattle.sheets.specs.Machine.{signals, nodes, machineQuestions, machineRefusal}
-use Rattle.sheets.specs.Rules.{lent, lines, automata, lineWord, lineFits, pathFits, overSignals, statesOf, ruleQuestions, ruleRefusal}
+use Rattle.sheets.specs.Rules.{lent, lines, automata, lineWord, lineFits, pathFits, overSignals, ruleQuestions, ruleRefusal}
+use Rattle.sheets.specs.Positioned.{stateCount}
 use Rattle.sheets.proofs.Tests.{and-left, and-right}
 use Rattle.sheets.proofs.Search.{within-at, le-or-gt}
-use Rattle.sheets.proofs.Questions.{all-yes, Finds, none, yes, no, rule-answers}
+use Rattle.sheets.proofs.Questions.{all-yes, Finds, none, yes, no}
 use Rattle.sheets.proofs.AcceptedMachine.{nodes-sized}
 use Rattle.sheets.proofs.AcceptedRule.{line-fits}
-use Rattle.sheets.proofs.ReachedPositions.{few-states}
+use Rattle.sheets.proofs.PositionedStates.{few-positions}
 use Rattle.truth.specs.Path.{asked, q18, q19, pathQuestions}
 use Rattle.truth.proofs.labelling.LabelTable.{same-rest}
 
@@ -68,9 +68,9 @@ module _ (M R : List ℕ) (j s : ℕ) (machine : machineRefusal M ≡ 0) (rules 
       (path-automaton R k (lineWord lent R k 0) (and-right (within 1 (lines R) k && within 1 (nodes M) s) (within 3 4 (lineWord lent R k 0)) parts)
       (line-fits lent R rules k (line-within .0) (line-within .1)))
 
-  pub pairs-most : nodes M * length (statesOf R x) ≤ 2048
+  pub pairs-most : nodes M * stateCount R x ≤ 2048
   pairs-most =
-      let t = few-states R x (rule-answers lent R rules .twelve) (automaton-within .0) (automaton-within .1) in
+      let t = few-positions R rules x (automaton-within .0) (automaton-within .1) in
       let n = nodes-sized M machine .1 in
       let most = mul-le-mul-left (nodes M) t in
       omega arith
@@ -92,7 +92,7 @@ module _ (M R : List ℕ) (j s : ℕ) where
   unfolding q19
   room-same room machine rules own =
       let most = pairs-most M R j s machine rules (all-yes lineOn own .1 .0) in
-      ap (λ (b : Bool). firstNo (ask 19 0 b ∷ [])) (least-room (nodes M * length (statesOf R (lineWord lent R (asked R j) 1))) room most)
+      ap (λ (b : Bool). firstNo (ask 19 0 b ∷ [])) (least-room (nodes M * stateCount R (lineWord lent R (asked R j) 1)) room most)
 
   -- more room than that changes no answer
   pub room-most : (room : ℕ) → firstNo (pathQuestions M R j s (min room 2048)) ≡ firstNo (pathQuestions M R j s room)
