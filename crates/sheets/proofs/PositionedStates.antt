@@ -8,6 +8,7 @@ use mathlib.Core.List.{List, [], _∷_}
 use mathlib.Core.Bool.{Bool, false, not, _&&_}
 use lib.ListN.{length}
 use lib.Dec.{T, T-not, not-T, eqb, eqb→eq, eqb-refl}
+use Rattle.sheets.specs.Format.{variablesMost, chainedMost}
 use Rattle.sheets.specs.Words.{bit, within, anyOf, member, indicator, howMany}
 use Rattle.sheets.specs.Structures.{Automaton}
 use Rattle.sheets.specs.Cycles.{Walk, step, more, May}
@@ -188,10 +189,10 @@ positioned-first R x = refl
 -- ---- a sheet that is lent has few states and variables
 
 module _ (R : List ℕ) (accepted : ruleRefusal lent R ≡ 0) (x : ℕ) (lo : 1 ≤ x) (hi : x ≤ automata R) where
-  pub few-positions : stateCount R x ≤ 16
+  pub few-positions : stateCount R x ≤ chainedMost
   unfolding stateCount
   few-positions = few-states R x (rule-answers lent R accepted .twelve) lo hi
 
-  pub few-valued : positioned R x .variables ≤ 4
+  pub few-valued : positioned R x .variables ≤ variablesMost
   unfolding positioned automaton
   few-valued = few-variables R x (rule-answers lent R accepted .nine) lo hi

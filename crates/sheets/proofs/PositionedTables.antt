@@ -9,8 +9,9 @@ use borrow.Author.Tests.{lt-ltb}
 use lib.ListN.{length, getD, set}
 use lib.Seq.{getD-set-same, getD-set-other}
 use lib.Dec.{ltb, eqb}
+use Rattle.sheets.specs.Format.{chainedMost}
 use Rattle.sheets.specs.Words.{bit, within, anyOf}
-use Rattle.sheets.specs.Rules.{automatonWord, variables, statesOf, accepting, transitionsOf, transitionTarget, mask, automaton}
+use Rattle.sheets.specs.Rules.{variables, statesOf, accepting, transitionsOf, transitionTarget, mask, automaton}
 use Rattle.sheets.specs.Positioned.{stateCount, stateOf, positioned}
 use Rattle.sheets.specs.Gathered.{Listed}
 use Rattle.sheets.specs.Tabled.{Tabled}
@@ -22,15 +23,15 @@ use Rattle.sheets.proofs.Positions.{below-split}
 use Rattle.sheets.proofs.AutomatonLoops.{listed-at}
 
 -- one mask out of position p more
-pub stored-at : (p : ℕ) (out masks : List ℕ) (k : ℕ) → 16 * p + k < length out → ((j : ℕ) → j < k → getD out (16 * p + j) 0 ≡ getD masks j 0)
-    → (j : ℕ) → j < k + 1 → getD (set out (16 * p + k) (getD masks k 0)) (16 * p + j) 0 ≡ getD masks j 0
+pub stored-at : (p : ℕ) (out masks : List ℕ) (k : ℕ) → chainedMost * p + k < length out → ((j : ℕ) → j < k → getD out (chainedMost * p + j) 0 ≡ getD masks j 0)
+    → (j : ℕ) → j < k + 1 → getD (set out (chainedMost * p + k) (getD masks k 0)) (chainedMost * p + j) 0 ≡ getD masks j 0
 stored-at p out masks k room before j l = ⊎-elim old new (below-split k j l)
   where
-    old : j < k → getD (set out (16 * p + k) (getD masks k 0)) (16 * p + j) 0 ≡ getD masks j 0
-    old lt = getD-set-other out (16 * p + k) (16 * p + j) (getD masks k 0) 0 (λ e. omega arith) ∙ before j lt
+    old : j < k → getD (set out (chainedMost * p + k) (getD masks k 0)) (chainedMost * p + j) 0 ≡ getD masks j 0
+    old lt = getD-set-other out (chainedMost * p + k) (chainedMost * p + j) (getD masks k 0) 0 (λ e. omega arith) ∙ before j lt
 
-    new : j ≡ k → getD (set out (16 * p + k) (getD masks k 0)) (16 * p + j) 0 ≡ getD masks j 0
-    new e = rw e (getD-set-same out (16 * p + k) (getD masks k 0) 0 room)
+    new : j ≡ k → getD (set out (chainedMost * p + k) (getD masks k 0)) (chainedMost * p + j) 0 ≡ getD masks j 0
+    new e = rw e (getD-set-same out (chainedMost * p + k) (getD masks k 0) 0 room)
 
 -- the mask has the valuations under which the sheet goes from state p to state q
 abbrev pub Between : List ℕ → ℕ → ℕ → ℕ → Type 0
@@ -38,25 +39,25 @@ Between R p q m = (w : ℕ) → bit m w ≡ anyOf (transitionsOf R p) (λ y. bit
 
 -- the masks out of the first p of the states, towards the first n
 abbrev pub From : List ℕ → List ℕ → ℕ → ℕ → List ℕ → Type 0
-From R states n p out = (i k : ℕ) → i < p → k < n → Between R (getD states i 0) (getD states k 0) (getD out (16 * i + k) 0)
+From R states n p out = (i k : ℕ) → i < p → k < n → Between R (getD states i 0) (getD states k 0) (getD out (chainedMost * i + k) 0)
 
-pub from-more : (R states : List ℕ) (n p : ℕ) (out after masks : List ℕ) → n ≤ 16 → From R states n p out
-    → ((k : ℕ) → k < n → getD after (16 * p + k) 0 ≡ getD masks k 0) → ((i : ℕ) → i < 16 * p → getD after i 0 ≡ getD out i 0)
+pub from-more : (R states : List ℕ) (n p : ℕ) (out after masks : List ℕ) → n ≤ chainedMost → From R states n p out
+    → ((k : ℕ) → k < n → getD after (chainedMost * p + k) 0 ≡ getD masks k 0) → ((i : ℕ) → i < chainedMost * p → getD after i 0 ≡ getD out i 0)
     → ((k w : ℕ) → k < n → bit (getD masks k 0) w ≡ anyOf (transitionsOf R (getD states p 0)) (λ y. bit (mask R y) w && eqb (transitionTarget R y) (getD states k 0)))
     → From R states n (p + 1) after
 from-more R states n p out after masks few before here other goes i k l h w = ⊎-elim old new (below-split p i l)
   where
-    old : i < p → bit (getD after (16 * i + k) 0) w ≡ anyOf (transitionsOf R (getD states i 0)) (λ y. bit (mask R y) w && eqb (transitionTarget R y) (getD states k 0))
-    old lt = rw (other (16 * i + k) (omega arith)) (before i k lt h w)
+    old : i < p → bit (getD after (chainedMost * i + k) 0) w ≡ anyOf (transitionsOf R (getD states i 0)) (λ y. bit (mask R y) w && eqb (transitionTarget R y) (getD states k 0))
+    old lt = rw (other (chainedMost * i + k) (omega arith)) (before i k lt h w)
 
-    new : i ≡ p → bit (getD after (16 * i + k) 0) w ≡ anyOf (transitionsOf R (getD states i 0)) (λ y. bit (mask R y) w && eqb (transitionTarget R y) (getD states k 0))
+    new : i ≡ p → bit (getD after (chainedMost * i + k) 0) w ≡ anyOf (transitionsOf R (getD states i 0)) (λ y. bit (mask R y) w && eqb (transitionTarget R y) (getD states k 0))
     new e = rw (e, here k h) (goes k w h)
 
-module _ (R : List ℕ) (x : ℕ) (a : ByPosition) (all : Numbers) (listed : Listed (statesOf R x) all) (few : all .count ≤ 16) where
-  pub tabled : a .variables ≡ automatonWord R x 0 → a .count ≡ all .count → a .numbers ≡ all .numbers
+module _ (R : List ℕ) (x : ℕ) (a : ByPosition) (all : Numbers) (listed : Listed (statesOf R x) all) (few : all .count ≤ chainedMost) where
+  pub tabled : a .variables ≡ variables R x → a .count ≡ all .count → a .numbers ≡ all .numbers
       → ((i : ℕ) → bit (a .accepting) i ≡ (ltb i (all .count) && accepting R (getD (all .numbers) i 0)))
       → From R (all .numbers) (all .count) (all .count) (a .masks) → Tabled (positioned R x) (stateCount R x) (stateOf R x) a
-  unfolding positioned automaton variables stateCount stateOf
+  unfolding positioned automaton stateCount stateOf
   tabled ev ec en accepts goes = record {
     variables = ev;
     count = ec ∙ listed .count;

@@ -6,6 +6,7 @@ use mathlib.Core.List.{List}
 use mathlib.Core.Bool.{Bool, false, _&&_}
 use lib.ListN.{length}
 use lib.Dec.{T, leb}
+use Rattle.sheets.specs.Format.{variablesMost, chainedMost}
 use Rattle.sheets.specs.Words.{within}
 use Rattle.sheets.specs.Machine.{nodes, kripke, machineRefusal}
 use Rattle.sheets.specs.Structures.{Automaton}
@@ -50,8 +51,8 @@ pub record PathReady (M R next back rows : List ℕ) (j x : ℕ) : Type 0 where
 -- what a path line's tables ask for: an automaton by position that fits them, whose argument lines have rows
 pub record Solvable (M next back rows : List ℕ) (arg : ℕ → ℕ) (a : ByPosition) : Type 0 where
   pub predecessors : Transposed (nodes M) next back
-  pub few : a .count ≤ 16
-  pub valued : a .variables ≤ 4
+  pub few : a .count ≤ chainedMost
+  pub valued : a .variables ≤ variablesMost
   pub arguments : Refers rows arg (a .variables)
 
 -- the path of line j exists from s, by the bits of the rows above it

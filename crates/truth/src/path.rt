@@ -22,6 +22,7 @@ use crate::positions::load;
 use crate::structure;
 use crate::walk::walk;
 use sheets::checks;
+use sheets::format;
 use sheets::machine;
 use sheets::position;
 use sheets::rules;
@@ -96,7 +97,7 @@ fn q19(m: &[u16], r: &[u16], line: u16, room: usize) -> bool
 }
 
 // The states at the first `count` positions of the list, by their record numbers, in the positions' place.
-fn named(states: [u16; 16], positions: [u16; 2048], count: u16) -> [u16; 2048]
+fn named(states: [u16; format::CHAINED], positions: [u16; 2048], count: u16) -> [u16; 2048]
     requires { ⌜ (count ≤ 2048) × ((i : ℕ) → i < count → getD positions i 0 < 16) ⌝ }
     ensures { λ a. ⌜ ((i : ℕ) → i < count → getD a i 0 ≡ getD states (getD positions i 0) 0) ⌝ }
 {

@@ -7,8 +7,8 @@ use Rattle.sheets.proofs.PositionedTables.{tabled}
 use Rattle.sheets.proofs.position.by_position.Statement.{statement}
 use Rattle.sheets.proofs.position.by_position.Tie as tie
 
-automaton-word-requires : tie.Need-automaton-word-requires
-automaton-word-requires c κs = search needs
+variables-requires : tie.Need-variables-requires
+variables-requires c κs = search needs
 
 states-of-requires : tie.Need-states-of-requires
 states-of-requires c κs = search needs
@@ -27,14 +27,14 @@ returns c =
     let read = c .before .before .before in
     let start = read .before .before .before in
     tabled (start .args .r .now) (start .args .x) _ (read .states-of .result) (read .states-of .ensures)
-    (omega (arith, read .states-of .ensures .count, start .pre)) (read .before .automaton-word .ensures) refl refl (c .before .accepting-row .ensures)
+    (omega (arith, read .states-of .ensures .count, start .pre)) (read .before .variables .ensures) refl refl (c .before .accepting-row .ensures)
     (λ p q l h w. c .masks-between .ensures p q w l h)
 
 pub by-position-spec : {M : Type 1} → statement M
 by-position-spec =
     tie.close
     (tie.spec
-    automaton-word-requires
+    variables-requires
     states-of-requires
     accepting-row-requires
     masks-between-requires

@@ -1,15 +1,16 @@
 -- `masks_between` meets its contract. The invariant: the masks out of the positions below p are there. The measure is what is left of n.
 use borrow.Author.Needs.{needs}
 use mathlib.Core.Path.{_≡_}
-use Prim.Native.Nat.{_-_, _≤_}
+use Prim.Native.Nat.{_-_, _*_, _≤_}
 use native.Mathlib.Omega.{arith}
 use lib.ListN.{length}
+use Rattle.sheets.specs.Format.{chainedMost}
 use Rattle.sheets.proofs.PositionedTables.{From, from-more}
 use Rattle.sheets.proofs.position.masks_between.Statement.{statement}
 use Rattle.sheets.proofs.position.masks_between.Tie as tie
 
 abbrev Inv-loop : tie.InvT-loop
-Inv-loop r n states out₀ p₀ out p = (p ≤ n) × (length out ≡ 256) × From r states n p out
+Inv-loop r n states out₀ p₀ out p = (p ≤ n) × (length out ≡ chainedMost * chainedMost) × From r states n p out
 
 abbrev μ-loop : tie.MeasureT-loop
 μ-loop r n states out₀ p₀ out p = n - p

@@ -6,13 +6,14 @@ use Prim.Native.Nat.{ℕ, _+_, _-_, _*_, _≤_, _<_}
 use native.Mathlib.Omega.{arith}
 use lib.ListN.{length, getD, length-set}
 use lib.Seq.{getD-set-other}
+use Rattle.sheets.specs.Format.{chainedMost}
 use Rattle.sheets.proofs.PositionedTables.{stored-at}
 use Rattle.sheets.proofs.position.put_masks.Statement.{statement}
 use Rattle.sheets.proofs.position.put_masks.Tie as tie
 
 abbrev Inv-loop : tie.InvT-loop
 Inv-loop out₀ p n masks k₀ out k =
-    (k ≤ n) × (length out ≡ 256) × ((j : ℕ) → j < k → getD out (16 * p + j) 0 ≡ getD masks j 0) × ((i : ℕ) → i < 16 * p → getD out i 0 ≡ getD out₀ i 0)
+    (k ≤ n) × (length out ≡ chainedMost * chainedMost) × ((j : ℕ) → j < k → getD out (chainedMost * p + j) 0 ≡ getD masks j 0) × ((i : ℕ) → i < chainedMost * p → getD out i 0 ≡ getD out₀ i 0)
 
 abbrev μ-loop : tie.MeasureT-loop
 μ-loop out₀ p n masks k₀ out k = n - k
@@ -57,7 +58,7 @@ loop-again c =
       omega arith,
       simp length-set (at .inv .1),
       stored-at (a .p) (at .out) (a .t4) (at .k) (omega arith) (at .inv .2),
-      λ i l. getD-set-other (at .out) (16 * a .p + at .k) i _ 0 (λ e. omega arith) ∙ at .inv .3 i l,
+      λ i l. getD-set-other (at .out) (chainedMost * a .p + at .k) i _ 0 (λ e. omega arith) ∙ at .inv .3 i l,
     )
 
 returns : tie.Need-returns Inv-loop μ-loop
