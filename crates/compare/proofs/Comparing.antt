@@ -9,7 +9,7 @@ use Rattle.truth.specs.Passed.{firstNo}
 use Rattle.input.specs.Bytes.{readable, wordsOf}
 use Rattle.input.specs.Cut.{firstSheet, secondSheet}
 use Rattle.comparison.specs.Comparison as Comparison
-use Rattle.comparison.specs.Answers.{comparisonQuestions, refusalOf, Leaves, CompareAnswer}
+use Rattle.comparison.specs.CompareAnswers.{comparisonQuestions, refusalOf, Leaves, CompareAnswer}
 use Rattle.comparison.specs.declared.compare.Answer.{Answer}
 use Rattle.comparison.specs.declared.compare.Answer.the-variants.{Refused, Equal, Unequal}
 use Rattle.comparison.proofs.Outcome.{never-both}

@@ -12,7 +12,7 @@ use Rattle.input.specs.Bytes.{readable, wordsOf}
 use Rattle.input.specs.Cut.{firstSheet, secondSheet}
 use Rattle.input.specs.Lines.{refusedLine}
 use Rattle.comparison.specs.Comparison as Comparison
-use Rattle.comparison.specs.Answers.{comparisonQuestions, refusalOf}
+use Rattle.comparison.specs.CompareAnswers.{comparisonQuestions, refusalOf}
 use Rattle.comparison.specs.declared.compare.Answer.{Answer}
 use Rattle.comparison.specs.declared.compare.Answer.the-variants.{Refused, Equal, Unequal}
 

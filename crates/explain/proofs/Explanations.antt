@@ -6,8 +6,8 @@ use lib.ListN.{length, take}
 use Rattle.sheets.specs.Questions.{none, firstNo}
 use Rattle.sheets.specs.Rules.{lines}
 use Rattle.comparison.specs.Comparison.{Written}
-use Rattle.comparison.specs.Answers as Comparison
-use Rattle.comparison.specs.Answers.{CompareAnswer, comparisonQuestions}
+use Rattle.comparison.specs.CompareAnswers as Comparison
+use Rattle.comparison.specs.CompareAnswers.{CompareAnswer, comparisonQuestions}
 use Rattle.comparison.specs.declared.compare.Answer.{Answer}
 use Rattle.comparison.specs.declared.compare.Answer.the-variants as Answer
 use Rattle.explain.specs.Verdicts.{Telling, Judged}

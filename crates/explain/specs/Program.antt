@@ -9,7 +9,7 @@ use Rattle.input.specs.Bytes.{readable, wordsOf}
 use Rattle.input.specs.Cut.{firstSheet, secondSheet}
 use Rattle.comparison.specs.Comparison.{Written}
 use Rattle.comparison.specs.Comparison as Comparison
-use Rattle.comparison.specs.Answers.{comparisonQuestions}
+use Rattle.comparison.specs.CompareAnswers.{comparisonQuestions}
 use Rattle.explain.specs.Verdicts.{Judged}
 use Rattle.explain.specs.declared.answer.Said.{Said}
 use Rattle.explain.specs.declared.answer.Said.the-variants.{Refused, Equal, Unequal}

@@ -6,7 +6,7 @@ use mathlib.Core.Bool.{true, false}
 use lib.ListN.{length}
 use Rattle.sheets.specs.Machine.{nodes}
 use Rattle.sheets.specs.Rules.{lines}
-use Rattle.truth.specs.Answers.{LabelAnswer}
+use Rattle.truth.specs.LabelAnswers.{LabelAnswer}
 use Rattle.truth.specs.declared.labelling.Labelled.{Labelled}
 use Rattle.truth.specs.declared.labelling.Labelled.the-variants.{Refused, Done}
 use Rattle.input.specs.Bytes.{readable, wordsOf}

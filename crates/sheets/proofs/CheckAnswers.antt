@@ -3,13 +3,13 @@ use mathlib.Core.Path.{_≡_, refl, sym, ap, _∙_}
 use Prim.Native.Nat.{ℕ}
 use mathlib.Core.List.{List}
 use Rattle.sheets.specs.Questions.{Refusal, none, Question, firstNo}
-use Rattle.sheets.specs.Answers.{refusalOf, Answered}
+use Rattle.sheets.specs.CheckAnswers.{refusalOf, Answered}
 use Rattle.sheets.specs.declared.checks.Check.{Check}
 use Rattle.sheets.specs.declared.checks.Check.the-variants.{Accepted, Refused}
-use Rattle.sheets.proofs.Questions.{Every, Numbered, first-has, none-found}
+use Rattle.sheets.proofs.Questions.{Numbered, PutTo, first-has, none-found}
 
 -- of a table whose questions are put to the sheet i
-module _ (i : ℕ) (qs : List Question) (numbered : Numbered qs) (put : Every (λ k j. j ≡ i) qs) (q : ℕ) (e : q ≡ firstNo qs .number) where
+module _ (i : ℕ) (qs : List Question) (numbered : Numbered qs) (put : PutTo i qs) (q : ℕ) (e : q ≡ firstNo qs .number) where
   pub accepts : q ≡ 0 → Answered qs Accepted
   unfolding refusalOf
   accepts z = record { refusal = sym (none-found qs numbered (sym e ∙ z)); accepted = λ h. refl }

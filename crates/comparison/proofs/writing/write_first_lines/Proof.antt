@@ -1,8 +1,8 @@
--- `write_first` meets its contract: the signals, and two lines more.
+-- `write_first_lines` meets its contract: the signals, and two lines more.
 use borrow.Author.Needs.{needs}
 use Rattle.comparison.proofs.HeldLines.{holds-first}
-use Rattle.comparison.proofs.writing.write_first.Statement.{statement}
-use Rattle.comparison.proofs.writing.write_first.Tie as tie
+use Rattle.comparison.proofs.writing.write_first_lines.Statement.{statement}
+use Rattle.comparison.proofs.writing.write_first_lines.Tie as tie
 
 write-signals-requires : tie.Need-write-signals-requires
 write-signals-requires c κs = search needs
@@ -22,8 +22,8 @@ write-or-requires c κs = search needs
 returns : tie.Need-returns
 returns c = holds-first _ _ _ _ (c .before .before .before .before .write-signals .ensures) (c .before .before .write-not .ensures) (c .write-or .ensures)
 
-pub write-first-spec : {M : Type 1} → statement M
-write-first-spec =
+pub write-first-lines-spec : {M : Type 1} → statement M
+write-first-lines-spec =
     tie.close
     (tie.spec
     write-signals-requires

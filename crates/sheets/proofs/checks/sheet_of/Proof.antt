@@ -1,10 +1,10 @@
 -- `sheet_of` meets its contract: the definition, by the result of the test.
 use native.Mathlib.Omega.{arith}
 use borrow.Author.Tests.{le-leb, lt-leb}
 use Rattle.sheets.specs.Words.{indicator}
-use Rattle.truth.specs.Labelling.{sheetOf}
-use Rattle.truth.proofs.labelling.sheet_of.Statement.{statement}
-use Rattle.truth.proofs.labelling.sheet_of.Tie as tie
+use Rattle.sheets.specs.Sheets.{sheetOf}
+use Rattle.sheets.proofs.checks.sheet_of.Statement.{statement}
+use Rattle.sheets.proofs.checks.sheet_of.Tie as tie
 
 returns : tie.Need-returns
 unfolding sheetOf indicator
