@@ -1,28 +1,26 @@
 -- The truth of every line at every node is decided, and whether a machine keeps a rule: for sheets that no question refuses, of any form.
-use mathlib.Core.Path.{_≡_, refl}
-use mathlib.Core.Logic.{Dec·of-iff, Dec·not, Dec·and, Iff·rfl, Iff·symm, Iff·trans}
+use mathlib.Core.Path.{_≡_}
+use mathlib.Core.Logic.{Dec·of-iff, Dec·not, Iff·symm}
 use Prim.Native.Nat.{ℕ, zero, suc, _≤_, _<_}
 use native.Mathlib.Omega.{arith}
-use native.Mathlib.Decide.{decLe}
 use mathlib.Core.List.{List}
-use mathlib.Core.Bool.{Bool, not}
+use mathlib.Core.Bool.{Bool, true, false}
 use lib.Dec.{T}
-use lib.ListN.{length}
 use Rattle.sheets.specs.Structures.{Line, signal, negation, either, somePath, somePathNot, malformed}
 use Rattle.sheets.specs.Machine.{nodes, kripke, machineRefusal}
-use Rattle.sheets.specs.Rules.{Form, automata, statesOf, accepting, automaton, line, lines, ruleRefusal}
+use Rattle.sheets.specs.Rules.{Form, automata, automaton, line, lines, ruleRefusal}
+use Rattle.sheets.specs.Positioned.{positioned}
 use Rattle.sheets.proofs.Tests.{dec-test, dec-fun, dec-sum}
-use Rattle.sheets.proofs.Search.{dec-each, chosen}
+use Rattle.sheets.proofs.Search.{dec-each}
 use Rattle.sheets.proofs.AcceptedMachine.{edge-stays, start-node}
 use Rattle.sheets.proofs.AcceptedRule.{some-line}
 use Rattle.sheets.proofs.FormedLines.{Formed, formed, over-sixteen}
-use Rattle.sheets.specs.Cycles.{May}
-use Rattle.truth.specs.Truth.{Truths, Valuation, SomePath, Means, TrueAt, Keeps}
-use Rattle.truth.proofs.Valuations.{valued, valuation-same}
-use Rattle.truth.proofs.EndlessPaths.{Arena, Apart}
-use Rattle.truth.proofs.FairPairs.{fair, fair-sound, fair-complete}
-use Rattle.truth.proofs.LinePaths.{Beside, start-in, path-endless, separate}
-use Rattle.truth.proofs.AutomatonStates.{st, chain-begins, chain-coded, chain-follows, apart, apart-not}
+use Rattle.sheets.proofs.PositionedStates.{positioned-sound, positioned-named}
+use Rattle.truth.specs.Truth.{Truths, SomePath, Means, TrueAt, Keeps}
+use Rattle.truth.specs.Product.{turned, good}
+use Rattle.truth.proofs.Valuations.{valued}
+use Rattle.truth.proofs.NamedPaths.{path-by-position}
+use Rattle.truth.proofs.DecidedPaths.{Finite, path-decided}
 use Rattle.truth.proofs.Recursion.{truth-recursion}
 
 module _ (F : Form) (M R : List ℕ) (machine-ok : machineRefusal M ≡ 0) (rule-ok : ruleRefusal F R ≡ 0) where
@@ -30,43 +28,27 @@ module _ (F : Form) (M R : List ℕ) (machine-ok : machineRefusal M ≡ 0) (rule
 
   module _ (P : Truths) (j : ℕ) (d : (i : ℕ) → 1 ≤ i → i < j → (s : ℕ) → 1 ≤ s → s ≤ nodes M → Dec (P i s))
       (s : ℕ) (lo : 1 ≤ s) (hi : s ≤ nodes M) where
-    -- the arena that goes by the valuation at each node says where a path exists
-    path-line : (x : ℕ) (arg : ℕ → ℕ) (good : ℕ → Bool) → ((lo : 1 ≤ x) (hi : x ≤ automata R) → Apart (May R (statesOf R x)) good)
+    path-line : (x : ℕ) (arg : ℕ → ℕ) (exchanged : Bool)
         → ((1 ≤ x) × (x ≤ automata R)) × ((i : ℕ) → i < automaton R x .variables → (1 ≤ arg i) × (arg i < j))
-        → Dec (SomePath (kripke M) (automaton R x) P arg good s)
-    path-line x arg good sep f =
-        let from = f .0 .0 in
-        let to = f .0 .1 in
-        let v = chosen (λ s. (1 ≤ s) × (s ≤ nodes M)) (λ s. Dec·and (decLe 1 s) (decLe s (nodes M))) (λ s w. Valuation P (automaton R x .variables) arg s w)
-        (λ s h. valued P (automaton R x .variables) arg s (λ i l. d (arg i) (f .1 i l .0) (f .1 i l .1) s (h .0) (h .1))) in
-        let B : Arena = record {
-          nodes = nodes M;
-          states = length (statesOf R x);
-          edge = kripke M .edge;
-          allow = λ q q′ s. automaton R x .goes (st R x q) (v .0 s) (st R x q′);
-          good = λ q. good (st R x q);
+        → Dec (SomePath (kripke M) (automaton R x) P arg (good exchanged (automaton R x)) s)
+    path-line x arg exchanged f =
+        let v = positioned R x .variables in
+        let fin : Finite (kripke M) (nodes M) v P arg = record {
+          stays = λ s s′ on. edge-stays M machine-ok s (on .0) (on .1) s′;
+          value = λ s on. valued P v arg s (λ i l.
+              let above = f .1 i (rw (positioned-named F R rule-ok x (f .0 .0) (f .0 .1) .variables) l) in
+              d (arg i) (above .0) (above .1) s (on .0) (on .1));
         } in
-        let b : Beside (kripke M) (automaton R x) P arg B (st R x) 1 = record {
-          stays = λ s s′ lo hi. edge-stays M machine-ok s lo hi s′;
-          edges = λ s s′ lo hi. Iff·rfl;
-          value = λ s lo hi. (v .0 s, v .1 s (lo, hi));
-          allows = λ q s q′ w h lo hi u. rw (valuation-same P (automaton R x .variables) arg s w (v .0 s) u (v .1 s (h .node-from, h .node-to))) Iff·rfl;
-          begins = chain-begins F R rule-ok x from to;
-          coded = chain-coded F R rule-ok x from to;
-        } in
-        let h = start-in (kripke M) (automaton R x) P arg B (st R x) 1 b good (λ q. refl) s lo hi in
-        let apart = separate (kripke M) (automaton R x) P arg B (st R x) 1 b good (λ q. refl) (May R (statesOf R x)) (chain-follows F R rule-ok x from to) (sep from to) in
-        Dec·of-iff
-        (Iff·trans (fair-sound B 1 s h, fair-complete B _ apart 1 s h) (path-endless (kripke M) (automaton R x) P arg B (st R x) 1 b good (λ q. refl) s lo hi))
-        (dec-test (fair B 1 s))
+        Dec·of-iff (Iff·symm (path-by-position F R rule-ok x (f .0 .0) (f .0 .1) (kripke M) P arg exchanged s))
+        (path-decided (positioned-sound F R rule-ok x (f .0 .0) (f .0 .1)) fin exchanged s (lo, hi))
 
     line-decided : (l : Line) → Formed 16 (automata R) (automaton R) j l → Dec (Means (kripke M) (automaton R) P l s)
-    unfolding Formed Means automaton
+    unfolding Formed Means turned
     line-decided (signal i) f = dec-test (kripke M .signal i s)
     line-decided (negation i) f = Dec·not (d i (f .0) (f .1) s lo hi)
     line-decided (either i k) f = dec-sum (d i (f .0 .0) (f .0 .1) s lo hi) (d k (f .1 .0) (f .1 .1) s lo hi)
-    line-decided (somePath x arg) f = path-line x arg (accepting R) (apart F R rule-ok x) f
-    line-decided (somePathNot x arg) f = path-line x arg (λ q. not (accepting R q)) (apart-not F R rule-ok x) f
+    line-decided (somePath x arg) f = path-line x arg false f
+    line-decided (somePathNot x arg) f = path-line x arg true f
     line-decided malformed f = absurd f
 
   -- ---- every line

@@ -6,9 +6,13 @@ use mathlib.Core.List.{List}
 use mathlib.Core.Bool.{Bool, false, _&&_}
 use lib.ListN.{length}
 use lib.Dec.{T, leb}
+use Rattle.sheets.specs.Format.{variablesMost, chainedMost}
 use Rattle.sheets.specs.Words.{within}
 use Rattle.sheets.specs.Machine.{nodes, kripke, machineRefusal}
-use Rattle.sheets.specs.Rules.{lent, lines, automata, variables, statesOf, automaton, line, ruleRefusal}
+use Rattle.sheets.specs.Structures.{Automaton}
+use Rattle.sheets.specs.Rules.{lent, lines, automata, automaton, line, ruleRefusal}
+use Rattle.sheets.specs.Positioned.{positioned}
+use Rattle.sheets.specs.declared.position.ByPosition.{ByPosition}
 use Rattle.truth.specs.Truth.{Means, SomePath}
 use Rattle.truth.specs.Product.{argument, good, Refers, Allowed, GoodRows}
 use Rattle.truth.specs.Pairs.{edgeIn, Transposed, Greatest, Least}
@@ -42,11 +46,18 @@ pub record PathReady (M R next back rows : List ℕ) (j x : ℕ) : Type 0 where
   pub ready : Ready M R next back
   pub from : 1 ≤ x
   pub to : x ≤ automata R
-  pub arguments : Refers R rows j (variables R x)
+  pub arguments : Refers rows (argument R j) (positioned R x .variables)
+
+-- what a path line's tables ask for: an automaton by position that fits them, whose argument lines have rows
+pub record Solvable (M next back rows : List ℕ) (arg : ℕ → ℕ) (a : ByPosition) : Type 0 where
+  pub predecessors : Transposed (nodes M) next back
+  pub few : a .count ≤ chainedMost
+  pub valued : a .variables ≤ variablesMost
+  pub arguments : Refers rows arg (a .variables)
 
 -- the path of line j exists from s, by the bits of the rows above it
 abbrev pub Holds : List ℕ → List ℕ → List ℕ → ℕ → ℕ → Bool → ℕ → Type 0
-Holds M R rows j x exchanged s = SomePath (kripke M) (automaton R x) (rowTruths rows) (argument R j) (good exchanged R) s
+Holds M R rows j x exchanged s = SomePath (kripke M) (positioned R x) (rowTruths rows) (argument R j) (good exchanged (positioned R x)) s
 
 -- a set has the nodes from which the path of line j exists, and no other bit
 pub record PathRow (M R rows : List ℕ) (j x : ℕ) (exchanged : Bool) (row : ℕ → Bool) : Type 0 where
@@ -57,11 +68,11 @@ pub record PathRow (M R rows : List ℕ) (j x : ℕ) (exchanged : Bool) (row : �
 abbrev pub nodeSet : List ℕ → ℕ → Bool
 nodeSet M s = leb s (nodes M) && within 1 128 s
 
--- The tables of a path line, solved: where the automaton may go, the largest set of good pairs each of which has a step into it, and
--- the pairs from which steps lead into that set, with their times.
-pub record SolvedLine (M R next rows : List ℕ) (j x : ℕ) (exchanged : Bool) (allow lasting reached times : List ℕ) : Type 0 where
+-- The tables of a path line, solved: where the automaton A, of t positions, may go, the largest set of good pairs each of which has a step
+-- into it, and the pairs from which steps lead into that set, with their times.
+pub record SolvedLine (M : List ℕ) (A : Automaton) (t : ℕ) (next rows : List ℕ) (arg : ℕ → ℕ) (exchanged : Bool) (allow lasting reached times : List ℕ) : Type 0 where
   pub goods : List ℕ
-  pub allowed : Allowed R rows (nodeSet M) j x (length (statesOf R x)) allow
-  pub goodRows : GoodRows R (nodeSet M) x (length (statesOf R x)) exchanged goods
-  pub greatest : Greatest allow next (length (statesOf R x)) goods lasting
-  pub least : Least allow next (length (statesOf R x)) lasting reached times
+  pub allowed : Allowed A t rows arg (nodeSet M) allow
+  pub goodRows : GoodRows A t (nodeSet M) exchanged goods
+  pub greatest : Greatest allow next t goods lasting
+  pub least : Least allow next t lasting reached times

@@ -9,7 +9,8 @@ use Rattle.sheets.specs.Words.{word, within}
 use Rattle.sheets.specs.Questions.{Question, ask}
 use Rattle.sheets.specs.Structures.{Kripke, Automaton, Line, signal, negation, either, somePath, somePathNot, malformed}
 use Rattle.sheets.specs.Machine.{kripke, nodes}
-use Rattle.sheets.specs.Rules.{lent, lines, lineWord, line, automaton, statesOf}
+use Rattle.sheets.specs.Rules.{lent, lines, lineWord, line, automaton}
+use Rattle.sheets.specs.Positioned.{stateCount}
 use Rattle.sheets.specs.Sheets.{sheetQuestions}
 use Rattle.truth.specs.Truth.{Truths, TrueAt}
 use Rattle.truth.specs.Lists.{Lasso}
@@ -26,8 +27,8 @@ q18 M R j s = within 1 (lines R) (asked R j) && within 1 (nodes M) s && within 3
 
 -- `room` is how many pairs the list has space for
 unfoldable pub q19 : List ℕ → List ℕ → ℕ → ℕ → Bool
-unfolding asked nodes statesOf lineWord lent
-q19 M R j room = leb (nodes M * length (statesOf R (lineWord lent R (asked R j) 1))) room
+unfolding asked nodes stateCount lineWord lent
+q19 M R j room = leb (nodes M * stateCount R (lineWord lent R (asked R j) 1)) room
 
 -- the questions that the path call asks: those of both sheets, and its own
 unfoldable pub pathQuestions : List ℕ → List ℕ → ℕ → ℕ → ℕ → List Question

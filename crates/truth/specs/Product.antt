@@ -6,9 +6,10 @@ use Prim.Native.Nat.{ℕ, zero, suc, _+_, _-_, _*_, _^_, _≤_, _<_}
 use mathlib.Core.List.{List}
 use mathlib.Core.Bool.{Bool, true, false, not, _&&_}
 use lib.ListN.{length, getD}
-use lib.Dec.{T, eqb}
-use Rattle.sheets.specs.Words.{bit, anyOf}
-use Rattle.sheets.specs.Rules.{lent, lineWord, variables, statesOf, accepting, automaton, transitionsOf, transitionTarget, mask}
+use lib.Dec.{T}
+use Rattle.sheets.specs.Words.{bit}
+use Rattle.sheets.specs.Structures.{Automaton}
+use Rattle.sheets.specs.Rules.{lent, lineWord}
 use Rattle.truth.specs.Rows.{rowsHas}
 use Rattle.truth.specs.Links.{Into, Onto}
 
@@ -26,41 +27,35 @@ agrees (suc v) w f = agrees v w f && same (bit w v) (f v)
 abbrev pub argument : List ℕ → ℕ → ℕ → ℕ
 argument R j i = lineWord lent R j (2 + i)
 
--- its truth at node s, by the rows of the lines above
-abbrev pub argumentAt : List ℕ → List ℕ → ℕ → ℕ → ℕ → Bool
-argumentAt R rows j s i = rowsHas rows (argument R j i - 1) s
+-- the truth of variable i + 1 at node s, where `arg i` is its line, by the rows of the lines above
+abbrev pub argumentAt : List ℕ → (ℕ → ℕ) → ℕ → ℕ → Bool
+argumentAt rows arg s i = rowsHas rows (arg i - 1) s
 
--- the state at position p of automaton x's chain
-abbrev pub stateAt : List ℕ → ℕ → ℕ → ℕ
-stateAt R x p = getD (statesOf R x) p 0
-
--- `allow` has at row 16 p + p′ the nodes of `all` at which automaton x goes from the state at p to the state at p′, under the
--- valuation that the argument lines of line j have there
-pub record Allowed (R rows : List ℕ) (all : ℕ → Bool) (j x t : ℕ) (allow : List ℕ) : Type 0 where
+-- `allow` has at row 16 p + p′ the nodes of `all` at which the automaton A, of t positions, goes from position p to position p′, under the
+-- valuation that the argument lines have there; position p is state p + 1
+pub record Allowed (A : Automaton) (t : ℕ) (rows : List ℕ) (arg : ℕ → ℕ) (all : ℕ → Bool) (allow : List ℕ) : Type 0 where
   pub inside : (k s : ℕ) → T (rowsHas allow k s) → T (all s)
-  pub goes : (p p′ s w : ℕ) → p < t → p′ < t → w < 2 ^ variables R x → T (agrees (variables R x) w (argumentAt R rows j s)) → T (all s)
-      → rowsHas allow (16 * p + p′) s ≡ automaton R x .goes (stateAt R x p) w (stateAt R x p′)
+  pub goes : (p p′ s w : ℕ) → p < t → p′ < t → w < 2 ^ A .variables → T (agrees (A .variables) w (argumentAt rows arg s)) → T (all s)
+      → rowsHas allow (16 * p + p′) s ≡ A .goes (p + 1) w (p′ + 1)
+
+-- accepting and non-accepting exchanged, or not
+unfoldable pub turned : Bool → Bool → Bool
+turned false b = b
+turned true b = not b
 
 -- accepting states are good for operation 3, non-accepting ones for operation 4
-unfoldable pub good : Bool → List ℕ → ℕ → Bool
-unfolding accepting
-good false R q = accepting R q
-good true R q = not (accepting R q)
+abbrev pub good : Bool → Automaton → ℕ → Bool
+good exchanged A q = turned exchanged (A .accepting q)
 
--- row p has all nodes of `all` where the state at p is good, and none otherwise
-pub record GoodRows (R : List ℕ) (all : ℕ → Bool) (x t : ℕ) (exchanged : Bool) (rows : List ℕ) : Type 0 where
-  pub row : (p s : ℕ) → p < t → rowsHas rows p s ≡ (all s && good exchanged R (stateAt R x p))
+-- row p has all nodes of `all` where position p is good, and none otherwise
+pub record GoodRows (A : Automaton) (t : ℕ) (all : ℕ → Bool) (exchanged : Bool) (rows : List ℕ) : Type 0 where
+  pub row : (p s : ℕ) → p < t → rowsHas rows p s ≡ (all s && good exchanged A (p + 1))
 
 -- ---- what the tables are made of
 
--- under valuation w state q goes to q′: `automaton R x .goes`, which is the same of every automaton x
-unfoldable pub takes : List ℕ → ℕ → ℕ → ℕ → Bool
-unfolding anyOf transitionsOf mask bit transitionTarget
-takes R q w q′ = anyOf (transitionsOf R q) (λ y. bit (mask R y) w && eqb (transitionTarget R y) q′)
-
--- the lines of variables 1 to v of line j have rows
-abbrev pub Refers : List ℕ → List ℕ → ℕ → ℕ → Type 0
-Refers R rows j v = (i : ℕ) → i < v → (1 ≤ argument R j i) × (2 * argument R j i ≤ length rows)
+-- the lines of variables 1 to v have rows
+abbrev pub Refers : List ℕ → (ℕ → ℕ) → ℕ → Type 0
+Refers rows arg v = (i : ℕ) → i < v → (1 ≤ arg i) × (2 * arg i ≤ length rows)
 
 -- s is in the row of a valuation that the mask has
 abbrev pub Drawn : List ℕ → ℕ → ℕ → Type 0
@@ -74,8 +69,8 @@ pub record MaskSet (table : List ℕ) (mask p k : ℕ) (allow into onto allow′
   pub enters : (t : ℕ) → t ≤ 16 → p < t → k < t → Into allow into t → Into allow′ into′ t
   pub leaves : (t : ℕ) → t ≤ 16 → p < t → k < t → Onto allow onto t → Onto allow′ onto′ t
 
--- `after` is `before` with, at rows 16 p to 16 p + t - 1, the nodes that the masks there draw
+-- `after` is `before` with, at rows 16 p to 16 p + t - 1, the nodes that the masks at the same places draw
 pub record Masked (table masks : List ℕ) (p t : ℕ) (before after : List ℕ) : Type 0 where
   pub size : length after ≡ 512
-  pub here : (k s : ℕ) → k < t → T (rowsHas after (16 * p + k) s) ↔ Drawn table (getD masks k 0) s
+  pub here : (k s : ℕ) → k < t → T (rowsHas after (16 * p + k) s) ↔ Drawn table (getD masks (16 * p + k) 0) s
   pub other : (q s : ℕ) → (q < 16 * p) ⊎ (16 * p + t ≤ q) → rowsHas after q s ≡ rowsHas before q s

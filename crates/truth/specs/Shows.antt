@@ -2,9 +2,9 @@
 use Prim.Native.Nat.{ℕ, _*_, _≤_}
 use mathlib.Core.List.{List}
 use mathlib.Core.Bool.{Bool}
-use lib.ListN.{length}
 use Rattle.sheets.specs.Machine.{nodes, kripke}
-use Rattle.sheets.specs.Rules.{statesOf, automaton}
+use Rattle.sheets.specs.Rules.{automaton}
+use Rattle.sheets.specs.Positioned.{stateCount}
 use Rattle.truth.specs.Labelling.{rowTruths}
 use Rattle.truth.specs.Lists.{Lasso}
 use Rattle.truth.specs.Product.{argument, good}
@@ -20,5 +20,5 @@ ShowsLine M R rows j x exchanged s list names (Refused q i) = ⊥
 ShowsLine M R rows j x exchanged s list names NoPath = Holds M R rows j x exchanged s → ⊥
 ShowsLine M R rows j x exchanged s list names (Path l b) =
     Holds M R rows j x exchanged s
-    × Lasso (kripke M) (automaton R x) (rowTruths rows) (argument R j) (good exchanged R) s (placed list) (placed names) l b
-    × (l ≤ nodes M * length (statesOf R x))
+    × Lasso (kripke M) (automaton R x) (rowTruths rows) (argument R j) (good exchanged (automaton R x)) s (placed list) (placed names) l b
+    × (l ≤ nodes M * stateCount R x)

@@ -6,10 +6,12 @@ ghost use lib.ListN.{length};
 ghost use lib.Dec.{leb};
 ghost use Rattle.sheets.specs.Words.{within};
 ghost use Rattle.sheets.specs.Machine as Machine;
-ghost use Rattle.sheets.specs.Rules as Rules;
+ghost use Rattle.sheets.specs.Structures.{Automaton};
+ghost use Rattle.sheets.specs.Tabled.{Tabled};
 ghost use Rattle.truth.specs.Rows.{rowHas, rowsHas};
 ghost use Rattle.truth.specs.Pairs.{NoRow, NoTime};
-ghost use Rattle.truth.specs.OneLine.{LineReady, LineRow, PathReady, PathRow, SolvedLine};
+ghost use Rattle.truth.specs.Product.{argument};
+ghost use Rattle.truth.specs.OneLine.{LineReady, LineRow, Solvable, PathReady, PathRow, SolvedLine};
 use crate::growth::grow;
 use crate::positions;
 use crate::product;
@@ -17,11 +19,12 @@ use crate::rows::Row;
 use crate::structure;
 use crate::tables::line_row;
 use crate::trimming::trim;
-use sheets::automata;
 use sheets::lines::Decoded;
 use sheets::lines::Line;
 use sheets::lines::decode;
 use sheets::machine;
+use sheets::position;
+use sheets::position::ByPosition;
 
 // The sets of pairs of a path line: the largest lasting set of good pairs, and the pairs that reach it.
 struct Sets {
@@ -29,8 +32,8 @@ struct Sets {
     reached: [u64; 32],
 }
 
-// Solves line j: automaton x, with accepting and non-accepting exchanged for operation 4. Where the automaton may go is written to an
-// empty table, and times to a table of zeros, if it has room for all pairs.
+// Solves line j for an automaton by position, with accepting and non-accepting exchanged for operation 4. Where the automaton may go is
+// written to an empty table, and times to a table of zeros, if it has room for all pairs.
 fn solve_with(
     m: &[u16],
     r: &[u16],
@@ -38,22 +41,31 @@ fn solve_with(
     back: &[u64; 512],
     rows: &[u64],
     j: u16,
-    x: u16,
+    a: ByPosition,
     exchanged: bool,
     allow: &mut [u64; 512],
     times: &mut [u16],
 ) -> Sets
-    requires { ⌜ (PathReady (now m) (now r) (now next) (now back) (now rows) j x) × (length (now allow) ≡ 512) × ((p : ℕ) → NoRow (now allow) p) × NoTime (now times) ⌝ }
-    ensures { λ a. ⌜ SolvedLine (now (m .entry)) (now (r .entry)) (now (next .entry)) (now (rows .entry)) j x exchanged (now (allow .exit)) (a .lasting) (a .reached) (now (times .exit)) ⌝ }
+    requires { ⌜ Solvable (now m) (now next) (now back) (now rows) (argument (now r) j) a × (length (now allow) ≡ 512) × ((p : ℕ) → NoRow (now allow) p) × NoTime (now times) ⌝ }
+    ensures { λ s. ⌜ ((A : Automaton) (t : ℕ) (name : ℕ → ℕ) → Tabled A t name a → SolvedLine (now (m .entry)) A t (now (next .entry)) (now (rows .entry)) (argument (now (r .entry)) j) exchanged (now (allow .exit)) (s .lasting) (s .reached) (now (times .exit))) ⌝ }
 {
     let all = structure::node_row(machine::nodes(m));
-    let chain = automata::states_of(r, x);
-    let t = chain.count;
-    let states = chain.numbers;
+    let t = a.count;
     let mut into = [0u64; 32];
     let mut onto = [0u64; 32];
-    product::allow_table(r, rows, all, j, x, t, states, allow, &mut into, &mut onto);
-    let goods = product::good_table(r, all, t, states, exchanged);
+    product::allow_table(
+        r,
+        rows,
+        all,
+        j,
+        a.variables,
+        t,
+        &a.masks,
+        allow,
+        &mut into,
+        &mut onto,
+    );
+    let goods = product::good_table(all, t, a.accepting, exchanged);
     let lasting = trim(allow, next, back, &into, &onto, t as usize, goods);
     let reached = grow(allow, back, &into, t as usize, lasting, times);
     Sets {
@@ -78,11 +90,11 @@ pub fn solve(
     back: &[u64; 512],
     rows: &[u64],
     j: u16,
-    x: u16,
+    a: ByPosition,
     exchanged: bool,
 ) -> Solved
-    requires { ⌜ PathReady (now m) (now r) (now next) (now back) (now rows) j x ⌝ }
-    ensures { λ a. ⌜ SolvedLine (now (m .entry)) (now (r .entry)) (now (next .entry)) (now (rows .entry)) j x exchanged (a .allow) (a .lasting) (a .reached) (a .times) ⌝ }
+    requires { ⌜ Solvable (now m) (now next) (now back) (now rows) (argument (now r) j) a ⌝ }
+    ensures { λ s. ⌜ ((A : Automaton) (t : ℕ) (name : ℕ → ℕ) → Tabled A t name a → SolvedLine (now (m .entry)) A t (now (next .entry)) (now (rows .entry)) (argument (now (r .entry)) j) exchanged (s .allow) (s .lasting) (s .reached) (s .times)) ⌝ }
 {
     let mut allow = [0u64; 512];
     let mut times = [0u16; 2048];
@@ -93,7 +105,7 @@ pub fn solve(
         back,
         rows,
         j,
-        x,
+        a,
         exchanged,
         &mut allow,
         &mut times,
@@ -122,6 +134,7 @@ fn path_row(
     requires { ⌜ PathReady (now m) (now r) (now next) (now back) (now rows) j x ⌝ }
     ensures { λ row. ⌜ PathRow (now (m .entry)) (now (r .entry)) (now (rows .entry)) j x exchanged (rowHas row) ⌝ }
 {
+    let a = position::by_position(r, x);
     let mut allow = [0u64; 512];
     let mut times = [0u16; 1];
     let sets = solve_with(
@@ -131,7 +144,7 @@ fn path_row(
         back,
         rows,
         j,
-        x,
+        a,
         exchanged,
         &mut allow,
         &mut times,

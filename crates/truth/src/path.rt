@@ -10,7 +10,6 @@ ghost use Rattle.sheets.specs.Machine as Machine;
 ghost use Rattle.sheets.specs.Rules as Rules;
 ghost use Rattle.truth.specs.OneLine.{Ready, PathReady};
 ghost use Rattle.truth.specs.Rows.{rowsHas};
-ghost use Rattle.truth.specs.Product.{good, stateAt};
 ghost use Rattle.truth.specs.Lists.{Lasso};
 ghost use Rattle.truth.specs.Trails.{placed};
 ghost use Rattle.truth.specs.Path as Path;
@@ -19,12 +18,12 @@ ghost use Rattle.truth.specs.Shows.{ShowsLine};
 use crate::labelling::label_lines;
 use crate::lines::solve;
 use crate::positions::load;
-use crate::product::chain_states;
 use crate::structure;
 use crate::trail::trace;
-use sheets::automata;
 use sheets::checks;
+use sheets::format;
 use sheets::machine;
+use sheets::position;
 use sheets::rules;
 
 // The answer: refused by a question, with the number of the machine sheet for questions 1 to 6; no path; or a path of so many pairs,
@@ -85,12 +84,12 @@ fn q19(m: &[u16], r: &[u16], line: u16, room: usize) -> bool
 {
     let x = rules::line_word(r, asked(r, line), 1);
     let n = machine::nodes(m) as usize;
-    let t = automata::chain_length(r, x) as usize;
+    let t = position::state_count(r, x) as usize;
     n * t <= room
 }
 
 // The states at the first `count` positions of the list, by their record numbers, in the positions' place.
-fn named(states: [u16; 16], positions: [u16; 2048], count: u16) -> [u16; 2048]
+fn named(states: [u16; format::CHAINED], positions: [u16; 2048], count: u16) -> [u16; 2048]
     requires { ⌜ (count ≤ 2048) × ((i : ℕ) → i < count → getD positions i 0 < 16) ⌝ }
     ensures { λ a. ⌜ ((i : ℕ) → i < count → getD a i 0 ≡ getD states (getD positions i 0) 0) ⌝ }
 {
@@ -119,7 +118,10 @@ fn show(
     requires { ⌜ (PathReady (now m) (now r) (now next) (now back) (now rows) j x) × ((1 ≤ s) × (s ≤ Machine.nodes (now m))) ⌝ }
     ensures { λ a. ⌜ ShowsLine (now (m .entry)) (now (r .entry)) (now (rows .entry)) j x exchanged s (a .nodes) (a .states) (a .answer) ⌝ }
 {
-    let solved = solve(m, r, next, back, rows, j, x, exchanged);
+    let a = position::by_position(r, x);
+    let t = a.count;
+    let numbers = a.numbers;
+    let solved = solve(m, r, next, back, rows, j, a, exchanged);
     let row = load(&solved.reached, 0);
     if !row.has(s) {
         return Made {
@@ -128,7 +130,6 @@ fn show(
             states: [0u16; 2048],
         };
     }
-    let t = automata::chain_length(r, x);
     let n = machine::nodes(m);
     let found = trace(
         &solved.allow,
@@ -142,7 +143,7 @@ fn show(
     );
     let positions = found.positions;
     let length = found.length;
-    let states = named(chain_states(r, x, t), positions, length);
+    let states = named(numbers, positions, length);
     let nodes = found.nodes;
     Made {
         nodes: nodes,

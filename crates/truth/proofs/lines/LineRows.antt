@@ -1,6 +1,6 @@
 -- The row of a line by the operation of the line, from what the code reads of the rows above it.
 use mathlib.Core.Path.{_≡_, _∙_}
-use mathlib.Core.Logic.{_↔_}
+use mathlib.Core.Logic.{_↔_, Iff·symm, Iff·trans}
 use Prim.Native.Nat.{ℕ, _-_, _*_, _≤_, _<_}
 use native.Mathlib.Omega.{arith}
 use mathlib.Core.List.{List}
@@ -9,7 +9,7 @@ use lib.ListN.{length}
 use lib.Dec.{T, not-T, leb, leb→le, le→leb}
 use Rattle.sheets.specs.Words.{within}
 use Rattle.sheets.specs.Machine.{nodes, kripke, signalAt}
-use Rattle.sheets.specs.Rules.{automata, automaton}
+use Rattle.sheets.specs.Rules.{lent, automata, automaton}
 use Rattle.sheets.specs.Lines.{decoded}
 use Rattle.sheets.specs.declared.lines.Line.{Line}
 use Rattle.sheets.specs.declared.lines.Line.the-variants.{Signal, Negation, Either, SomePath, SomePathNot}
@@ -18,11 +18,13 @@ use Rattle.sheets.proofs.Tests.{passed, failed, not-is, or-is}
 use Rattle.sheets.proofs.Search.{within-in}
 use Rattle.sheets.proofs.AcceptedMachine.{nodes-sized}
 use Rattle.sheets.proofs.FormedLines as FormedLines
+use Rattle.sheets.proofs.PositionedStates.{positioned-named}
 use Rattle.truth.specs.Rows.{rowsHas}
-use Rattle.truth.specs.Truth.{Means}
+use Rattle.truth.specs.Truth.{SomePath as PathFrom, Means}
 use Rattle.truth.specs.Labelling.{rowTruths}
-use Rattle.truth.specs.Product.{argument, good}
+use Rattle.truth.specs.Product.{argument, turned, good}
 use Rattle.truth.specs.OneLine.{LineReady, LineRow, PathReady, PathRow}
+use Rattle.truth.proofs.NamedPaths.{path-by-position}
 use Rattle.truth.proofs.tables.RowBits.{row-bit}
 use Rattle.truth.proofs.lines.DecodedKinds.{meant, line-meant, none-malformed, refers}
 
@@ -55,8 +57,12 @@ module _ {M R next back rows : List ℕ} {j : ℕ} (pre : LineReady M R next bac
 
   path-asks : {x : ℕ} → ((1 ≤ x) × (x ≤ automata R)) × ((i : ℕ) → i < automaton R x .variables → (1 ≤ argument R j i) × (argument R j i < j))
       → PathReady M R next back rows j x
-  unfolding automaton
-  path-asks r = record { ready = pre .ready; from = r .0 .0; to = r .0 .1; arguments = λ i l. above (r .1 i l) }
+  path-asks {x} r = record {
+    ready = pre .ready;
+    from = r .0 .0;
+    to = r .0 .1;
+    arguments = λ i l. above (r .1 i (rw (positioned-named lent R (pre .ready .rules) x (r .0 .0) (r .0 .1) .variables) l));
+  }
 
   pub path-ready : (exchanged : Bool) {x : ℕ} → decoded R j ≡ Formed (pathLine exchanged x) → PathReady M R next back rows j x
   unfolding FormedLines.Formed
@@ -104,7 +110,13 @@ module _ {M R next back rows : List ℕ} {j : ℕ} (pre : LineReady M R next bac
         rw (row-bit rows i s lo hi, row-bit rows k s lo hi)
         (let b = or-is (rowsHas rows (i - 1) s) (rowsHas rows (k - 1) s) in (b .1, b .0)))
 
+    by-name : (exchanged : Bool) {x : ℕ} → PathReady M R next back rows j x → PathRow M R rows j x exchanged row
+        → (s : ℕ) → 1 ≤ s → s ≤ nodes M → T (row s) ↔ PathFrom (kripke M) (automaton R x) (rowTruths rows) (argument R j) (good exchanged (automaton R x)) s
+    by-name exchanged {x} path p s lo hi =
+        Iff·trans (p .truth s lo hi)
+        (Iff·symm (path-by-position lent R (path .ready .rules) x (path .from) (path .to) (kripke M) (rowTruths rows) (argument R j) exchanged s))
+
     pub path-row : (exchanged : Bool) {x : ℕ} → decoded R j ≡ Formed (pathLine exchanged x) → PathRow M R rows j x exchanged row → LineRow M R rows j row
-    unfolding Means automaton good
-    path-row false {x} e p = record { truth = λ s lo hi. rw (line-meant R j (SomePath x) e) (p .truth s lo hi); clear = p .clear }
-    path-row true {x} e p = record { truth = λ s lo hi. rw (line-meant R j (SomePathNot x) e) (p .truth s lo hi); clear = p .clear }
+    unfolding Means turned
+    path-row false {x} e p = record { truth = λ s lo hi. rw (line-meant R j (SomePath x) e) (by-name false (path-ready false e) p s lo hi); clear = p .clear }
+    path-row true {x} e p = record { truth = λ s lo hi. rw (line-meant R j (SomePathNot x) e) (by-name true (path-ready true e) p s lo hi); clear = p .clear }

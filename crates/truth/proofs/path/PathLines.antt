@@ -11,16 +11,17 @@ use lib.Dec.{T, eqb}
 use Rattle.sheets.specs.Words.{within}
 use Rattle.sheets.specs.Structures.{Kripke}
 use Rattle.sheets.specs.Machine.{nodes, kripke, machineRefusal}
-use Rattle.sheets.specs.Rules.{lent, lines, automata, variables, automaton, line, lineOf, lineWord, ruleRefusal}
+use Rattle.sheets.specs.Rules.{lent, lines, automata, automaton, line, lineOf, lineWord, ruleRefusal}
 use Rattle.sheets.proofs.Search.{within-at, le-or-gt}
 use Rattle.sheets.proofs.AcceptedMachine.{edge-stays}
 use Rattle.sheets.proofs.FormedLines.{Formed, formed, over-sixteen}
 use Rattle.truth.specs.Truth.{Truths, SomePath, Means, TrueAt}
 use Rattle.truth.specs.Labelling.{rowBit, rowTruths, RowsTo}
 use Rattle.truth.specs.Lists.{Lasso}
-use Rattle.truth.specs.Product.{argument, good}
+use Rattle.truth.specs.Product.{argument, turned, good}
 use Rattle.truth.specs.Path.{Shows}
 use Rattle.truth.specs.OneLine.{Holds}
+use Rattle.truth.proofs.NamedPaths.{path-by-position}
 use Rattle.truth.proofs.labelling.LineTruths.{line-true}
 use Rattle.truth.proofs.path.SameLists.{lasso-truths}
 
@@ -41,21 +42,21 @@ module _ (R : List ℕ) (j : ℕ) where
   auto = lineWord lent R j 1
 
   means-path : (exchanged : Bool) (K : Kripke) (above : Truths) (s : ℕ)
-      → Means K (automaton R) above (lineOf lent R j (operation exchanged)) s ↔ SomePath K (automaton R auto) above (argument R j) (good exchanged R) s
-  unfolding lineOf Means automaton good
+      → Means K (automaton R) above (lineOf lent R j (operation exchanged)) s ↔ SomePath K (automaton R auto) above (argument R j) (good exchanged (automaton R auto)) s
+  unfolding lineOf Means turned
   means-path false K above s = (λ p. p, λ p. p)
   means-path true K above s = (λ p. p, λ p. p)
 
   shows-path : (exchanged : Bool) (K : Kripke) (above : Truths) (s : ℕ) (node state : ℕ → ℕ) (len back : ℕ)
-      → Lasso K (automaton R auto) above (argument R j) (good exchanged R) s node state len back
+      → Lasso K (automaton R auto) above (argument R j) (good exchanged (automaton R auto)) s node state len back
       → Shows K (automaton R) above (lineOf lent R j (operation exchanged)) s node state len back
-  unfolding lineOf Shows automaton good
+  unfolding lineOf Shows turned
   shows-path false K above s node state len back l = l
   shows-path true K above s node state len back l = l
 
   refers-path : (exchanged : Bool) → Formed 16 (automata R) (automaton R) j (lineOf lent R j (operation exchanged))
-      → ((1 ≤ auto) × (auto ≤ automata R)) × ((i : ℕ) → i < variables R auto → (1 ≤ argument R j i) × (argument R j i < j))
-  unfolding lineOf Formed automaton
+      → ((1 ≤ auto) × (auto ≤ automata R)) × ((i : ℕ) → i < automaton R auto .variables → (1 ≤ argument R j i) × (argument R j i < j))
+  unfolding lineOf Formed
   refers-path false f = f
   refers-path true f = f
 
@@ -67,18 +68,19 @@ module _ (M R : List ℕ) (machine : machineRefusal M ≡ 0) (rules : ruleRefusa
   unfolding line
   line-is = ap (lineOf lent R j) kind
 
-  pub path-refers : ((1 ≤ auto R j) × (auto R j ≤ automata R)) × ((i : ℕ) → i < variables R (auto R j) → (1 ≤ argument R j i) × (argument R j i < j))
+  pub path-refers : ((1 ≤ auto R j) × (auto R j ≤ automata R)) × ((i : ℕ) → i < automaton R (auto R j) .variables → (1 ≤ argument R j i) × (argument R j i < j))
   path-refers = refers-path R j exchanged (rw line-is at (formed lent R rules 16 (over-sixteen lent R rules) j lo hi))
 
   module _ (before rows : List ℕ) (written : RowsTo M R (j - 1) before rows) where
     -- the path exists by the bits of the rows where the line is true
     pub holds-true : (s : ℕ) → 1 ≤ s → s ≤ nodes M → Holds M R rows j (auto R j) exchanged s ↔ TrueAt lent M R j s
     holds-true s l h =
-        Iff·trans (Iff·symm (means-path R j exchanged (kripke M) (rowTruths rows) s))
-        (rw line-is at (line-true M R machine rules (rowBit rows) j lo hi (λ i s a b l h. written .truth i s a (omega arith) l h) s l h))
+        Iff·trans (Iff·symm (path-by-position lent R rules (auto R j) (path-refers .0 .0) (path-refers .0 .1) (kripke M) (rowTruths rows) (argument R j) exchanged s))
+        (Iff·trans (Iff·symm (means-path R j exchanged (kripke M) (rowTruths rows) s))
+        (rw line-is at (line-true M R machine rules (rowBit rows) j lo hi (λ i s a b l h. written .truth i s a (omega arith) l h) s l h)))
 
     module _ (s : ℕ) (l : 1 ≤ s) (h : s ≤ nodes M) (node state : ℕ → ℕ) (len back : ℕ)
-        (list : Lasso (kripke M) (automaton R (auto R j)) (rowTruths rows) (argument R j) (good exchanged R) s node state len back) where
+        (list : Lasso (kripke M) (automaton R (auto R j)) (rowTruths rows) (argument R j) (good exchanged (automaton R (auto R j))) s node state len back) where
       list-node : (i : ℕ) → 1 ≤ i → i ≤ len → (1 ≤ node i) × (node i ≤ nodes M)
       list-node =
           le-ind (λ i. i ≤ len → (1 ≤ node i) × (node i ≤ nodes M)) (λ b. rw (list .starts) (l, h))
@@ -86,11 +88,10 @@ module _ (M R : List ℕ) (machine : machineRefusal M ≡ 0) (rules : ruleRefusa
 
       -- a list that shows the path by the bits shows it by the truths
       pub list-true : Shows (kripke M) (automaton R) (TrueAt lent M R) (line lent R j) s node state len back
-      unfolding automaton
       list-true =
           rw line-is
           (shows-path R j exchanged (kripke M) (TrueAt lent M R) s node state len back
-          (lasso-truths (kripke M) (automaton R (auto R j)) (argument R j) (good exchanged R) s len back (rowTruths rows) (TrueAt lent M R) node state
+          (lasso-truths (kripke M) (automaton R (auto R j)) (argument R j) (good exchanged (automaton R (auto R j))) s len back (rowTruths rows) (TrueAt lent M R) node state
           (λ i k a b c.
           let on = list-node i a b in
           let above = path-refers .1 k c in

@@ -11,12 +11,14 @@ use lib.Dec.{T, leb, leb→le, eqb}
 use Rattle.sheets.specs.Words.{within, indicator}
 use Rattle.sheets.specs.Questions.{none as noRefusal, firstNo}
 use Rattle.sheets.specs.Machine.{nodes, machineRefusal}
-use Rattle.sheets.specs.Rules.{lent, fits, lines, lineWord, statesOf, q7, ruleRefusal}
+use Rattle.sheets.specs.Rules.{lent, fits, lines, lineWord, q7, ruleRefusal}
+use Rattle.sheets.specs.Positioned.{stateCount}
 use Rattle.sheets.specs.Sheets.{sheetOf}
 use Rattle.sheets.proofs.Tests.{and-left, and-right}
 use Rattle.sheets.proofs.Search.{within-at}
 use Rattle.sheets.proofs.Questions.{AllYes, rule-answers}
 use Rattle.sheets.proofs.SheetTable.{BothAccepted, Sheeted, call-accepted, call-refused, call-none}
+use Rattle.sheets.proofs.PositionedStates.{positioned-named}
 use Rattle.truth.specs.Truth.{TrueAt}
 use Rattle.truth.specs.Labelling.{RowsTo}
 use Rattle.truth.specs.OneLine.{Ready, PathReady, Holds}
@@ -77,7 +79,7 @@ module _ (M R : List ℕ) (j s room q : ℕ) (e : q ≡ firstNo (pathQuestions M
       path-line : T (within 3 4 (lineWord lent R k 0))
       path-line = let t = line-accepted in search (and-right, t)
 
-      room-enough : nodes M * length (statesOf R (lineWord lent R k 1)) ≤ room
+      room-enough : nodes M * stateCount R (lineWord lent R k 1) ≤ room
       unfolding q19
       room-enough = rw ek (leb→le _ room (accepted .1 .1 .0))
 
@@ -97,6 +99,7 @@ module _ (M R : List ℕ) (j s room q : ℕ) (e : q ≡ firstNo (pathQuestions M
             → (machineRefusal M ≡ 0) × ((ruleRefusal lent R ≡ 0) × ((next back : List ℕ) → Ready M R next back → PathReady M R next back rows k x × ((1 ≤ s) × (s ≤ nodes M))))
         show-ready size =
             let r = path-refers M R machine-accepted rules-accepted k (line-in .0) (line-in .1) exchanged kind in
+            let named = positioned-named lent R rules-accepted (lineWord lent R k 1) (r .0 .0) (r .0 .1) in
             let fit = rows-fit R rules-accepted in
             let in-lines = line-in .1 in (
               machine-accepted,
@@ -107,7 +110,7 @@ module _ (M R : List ℕ) (j s room q : ℕ) (e : q ≡ firstNo (pathQuestions M
                     ready = ready;
                     from = rw ex (r .0 .0);
                     to = rw ex (r .0 .1);
-                    arguments = λ i l. let a = r .1 i (rw ex at l) in (a .0, omega (arith, a .1));
+                    arguments = λ i l. let a = r .1 i (rw (named .variables) (rw ex at l)) in (a .0, omega (arith, a .1));
                   },
                   node-in,
                 ),

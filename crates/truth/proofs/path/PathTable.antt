@@ -8,12 +8,12 @@ use native.Mathlib.Nat.{mul-le-mul-left}
 use mathlib.Core.List.{List, [], _∷_}
 use mathlib.Core.Bool.{Bool, _&&_}
 use borrow.Author.Tests.{le-leb, lt-leb}
-use lib.ListN.{length}
 use lib.Dec.{T, leb}
 use Rattle.sheets.specs.Words.{within}
 use Rattle.sheets.specs.Questions.{Question, ask, firstNo}
 use Rattle.sheets.specs.Machine.{nodes, machineRefusal}
-use Rattle.sheets.specs.Rules.{lent, lines, automata, lineWord, lineFits, pathFits, statesOf, ruleRefusal}
+use Rattle.sheets.specs.Rules.{lent, lines, automata, lineWord, lineFits, pathFits, ruleRefusal}
+use Rattle.sheets.specs.Positioned.{stateCount}
 use Rattle.sheets.specs.Sheets.{sheetQuestions}
 use Rattle.sheets.proofs.Tests.{and-left, and-right}
 use Rattle.sheets.proofs.Search.{within-at, le-or-gt}
@@ -21,7 +21,7 @@ use Rattle.sheets.proofs.Questions.{all-yes, same-rest, rule-answers}
 use Rattle.sheets.proofs.SheetTable.{both-accepted}
 use Rattle.sheets.proofs.AcceptedMachine.{nodes-sized}
 use Rattle.sheets.proofs.AcceptedRule.{line-fits}
-use Rattle.sheets.proofs.ReachedPositions.{few-states}
+use Rattle.sheets.proofs.PositionedStates.{few-positions}
 use Rattle.truth.specs.Path.{asked, q18, q19, pathQuestions}
 
 -- the call's own questions
@@ -58,9 +58,9 @@ module _ (M R : List ℕ) (j s : ℕ) (machine : machineRefusal M ≡ 0) (rules 
       (path-automaton R k (lineWord lent R k 0) (and-right (within 1 (lines R) k && within 1 (nodes M) s) (within 3 4 (lineWord lent R k 0)) parts)
       (line-fits lent R rules k (line-within .0) (line-within .1)))
 
-  pub pairs-most : nodes M * length (statesOf R x) ≤ 2048
+  pub pairs-most : nodes M * stateCount R x ≤ 2048
   pairs-most =
-      let t = few-states R x (rule-answers lent R rules .twelve) (automaton-within .0) (automaton-within .1) in
+      let t = few-positions R rules x (automaton-within .0) (automaton-within .1) in
       let n = nodes-sized M machine .1 in
       let most = mul-le-mul-left (nodes M) t in
       omega arith
@@ -80,7 +80,7 @@ module _ (M R : List ℕ) (j s : ℕ) where
   room-same room sheets own =
       let both = both-accepted M R sheets in
       let most = pairs-most M R j s (both .machine) (both .rules) (all-yes lineOn own .0) in
-      ap (λ (b : Bool). firstNo (ask 19 0 b ∷ [])) (least-room (nodes M * length (statesOf R (lineWord lent R (asked R j) 1))) room most)
+      ap (λ (b : Bool). firstNo (ask 19 0 b ∷ [])) (least-room (nodes M * stateCount R (lineWord lent R (asked R j) 1)) room most)
 
   -- more room than that changes no answer
   pub room-most : (room : ℕ) → firstNo (pathQuestions M R j s (min room 2048)) ≡ firstNo (pathQuestions M R j s room)

@@ -1,5 +1,5 @@
 -- The table of where an automaton may go: rows 16 p to 16 p + t - 1 by the masks of position p, and all of them together.
-use mathlib.Core.Path.{_≡_, refl, sym, ap, _∙_}
+use mathlib.Core.Path.{_≡_, refl, sym, _∙_}
 use mathlib.Core.Logic.{_⊎_, inl, inr, _↔_, ⊎-elim}
 use Prim.Native.Nat.{ℕ, _+_, _-_, _*_, _^_, _≤_, _<_}
 use native.Mathlib.Omega.{arith}
@@ -9,14 +9,14 @@ use lib.ListN.{length, getD, set}
 use lib.Dec.{T}
 use Rattle.sheets.specs.Words.{bit, each}
 use Rattle.sheets.specs.Positions.{someBelow}
-use Rattle.sheets.specs.Rules.{automaton, variables}
+use Rattle.sheets.specs.Structures.{Automaton}
 use Rattle.sheets.proofs.Tests.{and-left, and-right, and-both}
 use Rattle.sheets.proofs.Search.{le-or-gt}
-use Rattle.sheets.proofs.Positions.{same-tests, below-split, some-at, some-in, some-same}
+use Rattle.sheets.proofs.Positions.{same-tests, below-split, some-at, some-in}
 use Rattle.truth.specs.Rows.{held, rowsHas}
 use Rattle.truth.specs.Pairs.{NoRow}
 use Rattle.truth.specs.Links.{Joined}
-use Rattle.truth.specs.Product.{agrees, argumentAt, stateAt, takes, Allowed, Drawn, MaskSet, Masked}
+use Rattle.truth.specs.Product.{agrees, argumentAt, Allowed, Drawn, MaskSet, Masked}
 use Rattle.truth.proofs.rows.RowLaws.{held-in, none-passes}
 use Rattle.truth.proofs.tables.TableLaws.{stored-here, stored-other, stored-length}
 use Rattle.truth.proofs.tables.LinkedSets.{linked-more}
@@ -61,10 +61,10 @@ module _ (table masks : List ℕ) (p : ℕ) (before : List ℕ) where
   masked-next k now m none s x = none s (rw (m .other (16 * p + k) s (inr (omega arith))) at x)
 
   pub masked-more : (k : ℕ) (now after into onto into′ onto′ : List ℕ) → Masked table masks p k before now
-      → MaskSet table (getD masks k 0) p k now into onto after into′ onto′ → Masked table masks p (k + 1) before after
+      → MaskSet table (getD masks (16 * p + k) 0) p k now into onto after into′ onto′ → Masked table masks p (k + 1) before after
   masked-more k now after into onto into′ onto′ m one = record { size = one .size ∙ m .size; here = new; other = old }
     where
-      new : (i s : ℕ) → i < k + 1 → T (rowsHas after (16 * p + i) s) ↔ Drawn table (getD masks i 0) s
+      new : (i s : ℕ) → i < k + 1 → T (rowsHas after (16 * p + i) s) ↔ Drawn table (getD masks (16 * p + i) 0) s
       new i s h = ⊎-elim (λ lt. rw (one .other (16 * p + i) s (λ q. omega arith)) (m .here i s lt)) (λ q. rw q (one .here s)) (below-split k i h)
 
       old : (q s : ℕ) → (q < 16 * p) ⊎ (16 * p + (k + 1) ≤ q) → rowsHas after q s ≡ rowsHas before q s
@@ -87,15 +87,14 @@ module _ (table : List ℕ) (v : ℕ) (empty : (w : ℕ) → 2 ^ v ≤ w → NoR
 -- ---- the whole table
 
 -- the rows of positions below p, of t, are made; every row has nodes of the valuations' rows alone
-pub record Built (R states table : List ℕ) (v t p : ℕ) (out : List ℕ) : Type 0 where
+pub record Built (masks table : List ℕ) (v t p : ℕ) (out : List ℕ) : Type 0 where
   pub size : length out ≡ 512
-  pub row : (i k s : ℕ) → i < p → k < t
-      → rowsHas out (16 * i + k) s ≡ someBelow (2 ^ v) (λ w. takes R (getD states i 0) w (getD states k 0) && rowsHas table w s)
+  pub row : (i k s : ℕ) → i < p → k < t → rowsHas out (16 * i + k) s ≡ someBelow (2 ^ v) (λ w. bit (getD masks (16 * i + k) 0) w && rowsHas table w s)
   pub inside : (q s : ℕ) → T (rowsHas out q s) → T (someBelow (2 ^ v) (λ w. rowsHas table w s))
   pub rest : (q : ℕ) → 16 * p ≤ q → NoRow out q
 
-module _ (R states table : List ℕ) (v t : ℕ) where
-  pub built-none : (out : List ℕ) → length out ≡ 512 → ((q : ℕ) → NoRow out q) → Built R states table v t 0 out
+module _ (masks table : List ℕ) (v t : ℕ) where
+  pub built-none : (out : List ℕ) → length out ≡ 512 → ((q : ℕ) → NoRow out q) → Built masks table v t 0 out
   built-none out size none = record {
     size = size;
     row = λ i k s l m. absurd (omega arith);
@@ -103,21 +102,19 @@ module _ (R states table : List ℕ) (v t : ℕ) where
     rest = λ q l. none q;
   }
 
-  pub built-more : (p : ℕ) (masks now after : List ℕ) → t ≤ 16 → ((w : ℕ) → 2 ^ v ≤ w → NoRow table w) → Built R states table v t p now
-      → ((k w : ℕ) → k < t → bit (getD masks k 0) w ≡ takes R (getD states p 0) w (getD states k 0)) → Masked table masks p t now after
-      → Built R states table v t (p + 1) after
-  built-more p masks now after fits empty b made m = record {
+  pub built-more : (p : ℕ) (now after : List ℕ) → t ≤ 16 → ((w : ℕ) → 2 ^ v ≤ w → NoRow table w) → Built masks table v t p now
+      → Masked table masks p t now after → Built masks table v t (p + 1) after
+  built-more p now after fits empty b m = record {
     size = m .size;
     row = new;
     inside = in-table;
     rest = λ q l s x. b .rest q (omega arith) s (rw (m .other q s (inr (omega arith))) at x);
   }
     where
-      new : (i k s : ℕ) → i < p + 1 → k < t
-          → rowsHas after (16 * i + k) s ≡ someBelow (2 ^ v) (λ w. takes R (getD states i 0) w (getD states k 0) && rowsHas table w s)
+      new : (i k s : ℕ) → i < p + 1 → k < t → rowsHas after (16 * i + k) s ≡ someBelow (2 ^ v) (λ w. bit (getD masks (16 * i + k) 0) w && rowsHas table w s)
       new i k s l h =
           ⊎-elim (λ lt. m .other (16 * i + k) s (inl (omega arith)) ∙ b .row i k s lt h)
-          (λ e. rw e (drawn-is table v empty (getD masks k 0) s _ (m .here k s h) ∙ some-same _ _ (λ w. ap (λ (x : Bool). x && rowsHas table w s) (made k w h)) (2 ^ v))) (below-split p i l)
+          (λ e. rw e (drawn-is table v empty (getD masks (16 * p + k) 0) s _ (m .here k s h))) (below-split p i l)
 
       loose : (g : ℕ → Bool) (s : ℕ) → T (someBelow (2 ^ v) (λ w. g w && rowsHas table w s)) → T (someBelow (2 ^ v) (λ w. rowsHas table w s))
       loose g s x =
@@ -135,19 +132,19 @@ module _ (R states table : List ℕ) (v t : ℕ) where
           set-row : 16 * p ≤ q → q < 16 * p + t → T (someBelow (2 ^ v) (λ w. rowsHas table w s))
           set-row lo hi =
               let e : q ≡ 16 * p + (q - 16 * p) = omega arith in
-              loose (bit (getD masks (q - 16 * p) 0)) s (drawn-some table v empty (getD masks (q - 16 * p) 0) s (m .here (q - 16 * p) s (omega arith) .0 (rw e at x)))
+              let mask = getD masks (16 * p + (q - 16 * p)) 0 in
+              loose (bit mask) s (drawn-some table v empty mask s (m .here (q - 16 * p) s (omega arith) .0 (rw e at x)))
 
 -- it is the table that is asked for
-pub built-allowed : (R rows states table : List ℕ) (all : ℕ → Bool) (j x v t : ℕ) (out : List ℕ) → v ≡ variables R x
-    → ((k : ℕ) → k < t → getD states k 0 ≡ stateAt R x k)
-    → ((w s : ℕ) → w < 2 ^ v → rowsHas table w s ≡ (all s && agrees v w (argumentAt R rows j s)))
-    → Built R states table v t t out → Allowed R rows all j x t out
-unfolding automaton takes
-built-allowed R rows states table all j x v t out e at valued b = record {
-  inside = λ k s h. row-inside v (argumentAt R rows j s) (all s) (λ w. rowsHas table w s) (λ w l. valued w s l) (b .inside k s h);
+pub built-allowed : (masks table rows : List ℕ) (arg : ℕ → ℕ) (all : ℕ → Bool) (v t : ℕ) (out : List ℕ)
+    → ((w s : ℕ) → w < 2 ^ v → rowsHas table w s ≡ (all s && agrees v w (argumentAt rows arg s))) → Built masks table v t t out
+    → (A : Automaton) → v ≡ A .variables → ((p q w : ℕ) → p < t → q < t → bit (getD masks (16 * p + q) 0) w ≡ A .goes (p + 1) w (q + 1))
+    → Allowed A t rows arg all out
+built-allowed masks table rows arg all v t out valued b A e at = record {
+  inside = λ k s h. row-inside v (argumentAt rows arg s) (all s) (λ w. rowsHas table w s) (λ w l. valued w s l) (b .inside k s h);
   goes = λ p p′ s w l l′ k g h.
-      rw (← (at p l), ← (at p′ l′))
-      (b .row p p′ s l l′
-      ∙ row-at v (argumentAt R rows j s) (all s) (λ u. rowsHas table u s) (λ u m. valued u s m) w (rw (← e) at k) (rw (← e) at g) h
-      (λ u. takes R (getD states p 0) u (getD states p′ 0)));
+      b .row p p′ s l l′
+      ∙ row-at v (argumentAt rows arg s) (all s) (λ u. rowsHas table u s) (λ u m. valued u s m) w (rw (← e) at k) (rw (← e) at g) h
+      (bit (getD masks (16 * p + p′) 0))
+      ∙ at p p′ w l l′;
 }

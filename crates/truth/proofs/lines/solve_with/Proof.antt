@@ -1,25 +1,25 @@
 -- `solve_with` meets its contract: the tables are those of the line.
 use borrow.Author.Needs.{needs}
-use mathlib.Core.Path.{_≡_, refl}
-use Prim.Native.Nat.{ℕ, _+_, _*_, _≤_, _<_}
+use mathlib.Core.Path.{refl, ap, _∙_}
+use Prim.Native.Nat.{ℕ, _+_, _*_}
 use native.Mathlib.Omega.{arith}
-use lib.ListN.{getD}
+use mathlib.Core.Bool.{_&&_}
+use lib.Dec.{leb}
+use Rattle.sheets.specs.Words.{within}
 use Rattle.truth.specs.Rows.{rowHas}
-use Rattle.truth.specs.Product.{stateAt}
+use Rattle.truth.specs.Product.{argument}
 use Rattle.truth.proofs.tables.TableLaws.{zero-row}
 use Rattle.truth.proofs.tables.LinkedSets.{linked-none}
-use Rattle.truth.proofs.lines.PathRows.{states-few, variables-few, solved-line}
+use Rattle.truth.proofs.lines.PathRows.{solved-line}
 use Rattle.truth.proofs.lines.solve_with.Statement.{statement}
 use Rattle.truth.proofs.lines.solve_with.Tie as tie
 
--- the chain is short, and its states are by position
-short : (c : tie.After-states-of) → c .states-of .result .count ≤ 16
-short c =
-    let a = c .before .before .before .before .before .before .before .args in
-    omega (arith, c .states-of .ensures .count, states-few (a .m .now) (a .r .now) (a .next .now) (a .back .now) (a .rows .now) (a .j) (a .x) (c .before .before .before .before .before .before .before .pre .0))
+-- the start, from where the nodes' row is made and from where the table is made
+abbrev row-start : tie.After-node-row → tie.Start
+row-start c = c .before .before .before .before .before .before
 
-placed : (c : tie.After-states-of) (k : ℕ) → k < c .states-of .result .count → getD (c .states-of .result .numbers) k 0 ≡ stateAt (c .before .before .before .before .before .before .before .args .r .now) (c .before .before .before .before .before .before .before .args .x) k
-placed c k l = c .states-of .ensures .each k (omega (arith, short c))
+abbrev allow-row : tie.After-allow-table → tie.After-node-row
+allow-row c = c .before .before .before .before .before .before
 
 nodes-requires : tie.Need-nodes-requires
 nodes-requires c κs = omega arith
@@ -27,16 +27,11 @@ nodes-requires c κs = omega arith
 node-row-requires : tie.Need-node-row-requires
 node-row-requires c κs = omega arith
 
-states-of-requires : tie.Need-states-of-requires
-states-of-requires c κs = omega arith
-
 allow-table-requires : tie.Need-allow-table-requires
 allow-table-requires c κs =
-    let a = c .before .before .before .before .before .before .before .before .before .before .before .args in
-    let pre = c .before .before .before .before .before .before .before .before .before .before .before .pre in (
-      short (c .before .before .before .before),
-      variables-few (a .m .now) (a .r .now) (a .next .now) (a .back .now) (a .rows .now) (a .j) (a .x) (pre .0),
-      placed (c .before .before .before .before),
+    let pre = row-start (c .before .before .before .before .before) .pre in (
+      pre .0 .few,
+      pre .0 .valued,
       pre .0 .arguments,
       pre .1,
       pre .2,
@@ -45,29 +40,41 @@ allow-table-requires c κs =
     )
 
 good-table-requires : tie.Need-good-table-requires
-good-table-requires c κs = short (c .before .before .before .before .before)
+good-table-requires c κs = row-start (allow-row c) .pre .0 .few
 
 cast-trim : tie.Need-cast-trim
 cast-trim c = omega arith
 
 trim-requires : tie.Need-trim-requires
-trim-requires c κs = (short (c .before .before .before .before .before .before .before .before .before), c .before .before .before .before .allow-table .ensures .1 .0, c .before .before .before .before .allow-table .ensures .1 .1)
+trim-requires c κs =
+    let allowed = c .before .before .before .before in
+    (row-start (allow-row allowed) .pre .0 .few, allowed .allow-table .ensures .1 .0, allowed .allow-table .ensures .1 .1)
 
 cast-grow : tie.Need-cast-grow
-cast-grow c = omega arith
+cast-grow c = let few = row-start (allow-row (c .before .before .before .before .before .before .before)) .pre .0 .few in omega (arith, few)
 
 grow-requires : tie.Need-grow-requires
-grow-requires c κs = (short (c .before .before .before .before .before .before .before .before .before .before .before .before .before), c .before .before .before .before .before .before .before .before .before .before .before .before .before .before .before .before .before .before .before .before .pre .3, c .before .before .before .before .before .before .before .before .allow-table .ensures .1 .0)
+grow-requires c κs =
+    let allowed = c .before .before .before .before .before .before .before .before in
+    let pre = row-start (allow-row allowed) .pre in
+    (pre .0 .few, pre .3, allowed .allow-table .ensures .1 .0)
 
 same-length : tie.Need-same-length
 same-length c = search needs
 
 returns : tie.Need-returns
-returns c =
-    let a = c .before .before .before .before .before .before .before .before .before .before .before .before .before .before .before .before .before .before .before .before .before .before .before .args in
-    solved-line (a .m .now) (a .r .now) (a .next .now) (a .back .now) (a .rows .now) (a .j) (a .x) (c .before .before .before .before .before .before .before .before .before .before .before .before .before .before .before .before .before .before .before .before .before .before .before .pre .0) _ (c .before .before .before .before .before .before .before .before .before .before .before .before .before .before .before .before .states-of .ensures .count) (a .exchanged)
-    (rowHas (c .before .before .before .before .before .before .before .before .before .before .before .before .before .before .before .before .before .node-row .result)) (rw (c .before .before .before .before .before .before .before .before .before .before .before .before .before .before .before .before .before .before .nodes .ensures) at (c .before .before .before .before .before .before .before .before .before .before .before .before .before .before .before .before .before .node-row .ensures)) _ _ _ _ _ (c .before .before .before .before .before .before .before .before .before .before .before .allow-table .ensures .0)
-    (c .before .before .before .before .before .before .before .before .before .before .good-table .ensures (a .x) (placed (c .before .before .before .before .before .before .before .before .before .before .before .before .before .before .before .before))) (c .before .before .before .before .before .before .trim .ensures) (c .before .before .grow .ensures)
+returns c A t name is =
+    let grown = c .before .before in
+    let trimmed = grown .before .before .before .before in
+    let made = trimmed .before .before .before .before in
+    let allowed = made .before in
+    let row = allow-row allowed in
+    let start = row-start row in
+    let a = start .args in
+    solved-line (a .m .now) A t (a .next .now) (a .rows .now) (argument (a .r .now) (a .j)) (a .exchanged) (a .back .now) (start .pre .0 .predecessors) _ (is .count)
+    (rowHas (row .node-row .result)) (λ s. row .node-row .ensures s ∙ ap (λ (n : ℕ). leb s n && within 1 128 s) (row .before .nodes .ensures)) _ _ _ _ _
+    (allowed .allow-table .ensures .0 A (is .variables) (λ p q w l h. is .goes p q w (omega (arith, l, is .count)) (omega (arith, h, is .count))))
+    (made .good-table .ensures A (λ p l. is .accepting p (omega (arith, l, is .count)))) (trimmed .trim .ensures) (grown .grow .ensures)
 
 pub solve-with-spec : {M : Type 1} → statement M
 solve-with-spec =
@@ -75,7 +82,6 @@ solve-with-spec =
     (tie.spec
     nodes-requires
     node-row-requires
-    states-of-requires
     allow-table-requires
     good-table-requires
     cast-trim

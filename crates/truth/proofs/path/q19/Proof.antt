@@ -4,16 +4,16 @@ use Prim.Native.Nat.{ℕ, _*_, _≤_, _<_}
 use native.Mathlib.Omega.{arith}
 use native.Mathlib.Nat.{mul-le-mul-left}
 use mathlib.Core.List.{List}
-use lib.ListN.{length}
 use lib.Dec.{leb}
 use Rattle.sheets.specs.Machine.{nodes}
-use Rattle.sheets.specs.Rules.{lent, lineWord, statesOf}
+use Rattle.sheets.specs.Rules.{lent, lineWord}
+use Rattle.sheets.specs.Positioned.{stateCount}
 use Rattle.truth.specs.Path.{asked, q19}
 use borrow.Author.Needs.{needs}
 use Rattle.truth.proofs.path.q19.Statement.{statement}
 use Rattle.truth.proofs.path.q19.Tie as tie
 
-room-test : (M R : List ℕ) (j room k x n t : ℕ) → k ≡ asked R j → x ≡ lineWord lent R k 1 → n ≡ nodes M → t ≡ length (statesOf R x)
+room-test : (M R : List ℕ) (j room k x n t : ℕ) → k ≡ asked R j → x ≡ lineWord lent R k 1 → n ≡ nodes M → t ≡ stateCount R x
     → leb (n * t) room ≡ q19 M R j room
 unfolding q19
 room-test M R j room k x n t ek ex en et = rw (← ek, ← ex, ← en, ← et) refl
@@ -33,19 +33,19 @@ nodes-requires c κs = search needs
 cast-n : tie.Need-cast-n
 cast-n c = search needs
 
-chain-length-requires : tie.Need-chain-length-requires
-chain-length-requires c κs = search needs
+state-count-requires : tie.Need-state-count-requires
+state-count-requires c κs = search needs
 
 cast-t : tie.Need-cast-t
 cast-t c = search needs
 
 mul-result : tie.Need-mul-result
-mul-result c = let h = small (c .before .nodes .result) (c .chain-length .result) (search needs) (search needs) in omega arith
+mul-result c = let h = small (c .before .nodes .result) (c .state-count .result) (search needs) (search needs) in omega arith
 
 returns : tie.Need-returns
 returns c =
     room-test _ _ _ _ _ _ _ _ (c .before .before .before .asked .ensures) (c .before .before .line-word .ensures) (c .before .nodes .ensures)
-    (c .chain-length .ensures)
+    (c .state-count .ensures)
 
 pub q19-spec : {M : Type 1} → statement M
 q19-spec =
@@ -55,7 +55,7 @@ q19-spec =
     line-word-requires
     nodes-requires
     cast-n
-    chain-length-requires
+    state-count-requires
     cast-t
     mul-result
     returns)

@@ -4,18 +4,45 @@ use borrow.Author.Needs.{needs}
 use mathlib.Core.Path.{_≡_}
 use native.Mathlib.Omega.{arith}
 use lib.ListN.{length}
+use Rattle.sheets.specs.Positioned.{stateCount, stateOf, positioned}
 use Rattle.truth.specs.Pairs.{Timed}
-use Rattle.truth.proofs.lines.PathRows.{states-few}
+use Rattle.truth.specs.Product.{argument}
+use Rattle.truth.specs.OneLine.{SolvedLine}
+use Rattle.truth.proofs.lines.PathRows.{states-few, solvable}
 use Rattle.truth.proofs.path.ShownLines.{none-shown, traceable, list-fits, shows-line}
 use Rattle.truth.proofs.path.show.Statement.{statement}
 use Rattle.truth.proofs.path.show.Tie as tie
+
+-- ---- places before the row is looked at
+
+abbrev solved-at : tie.After-has → tie.After-solve
+solved-at c = c .before .before .before .before
+
+abbrev tabled-at : tie.After-has → tie.After-by-position
+tabled-at c = solved-at c .before .before
+
+abbrev start : tie.After-by-position → tie.Start
+start c = c .before .before .before .before
+
+-- the tables are solved
+line : (c : tie.After-has)
+    → SolvedLine (start (tabled-at c) .args .m .now) (positioned (start (tabled-at c) .args .r .now) (start (tabled-at c) .args .x))
+    (stateCount (start (tabled-at c) .args .r .now) (start (tabled-at c) .args .x)) (start (tabled-at c) .args .next .now) (start (tabled-at c) .args .rows .now)
+    (argument (start (tabled-at c) .args .r .now) (start (tabled-at c) .args .j)) (start (tabled-at c) .args .exchanged)
+    (solved-at c .solve .result .allow) (solved-at c .solve .result .lasting) (solved-at c .solve .result .reached) (solved-at c .solve .result .times)
+line c =
+    let a = start (tabled-at c) .args in
+    solved-at c .solve .ensures (positioned (a .r .now) (a .x)) (stateCount (a .r .now) (a .x)) (stateOf (a .r .now) (a .x)) (tabled-at c .by-position .ensures)
 
 -- there is room for every time
 timed : (c : tie.After-solve) → Timed (c .solve .result .times)
 timed c = let long : length (c .solve .result .times) ≡ 2048 = search needs in omega arith
 
+by-position-requires : tie.Need-by-position-requires
+by-position-requires c κs = states-few (c .before .before .before .pre .0)
+
 solve-requires : tie.Need-solve-requires
-solve-requires c κs = search needs
+solve-requires c κs = let tabled = c .before in solvable (start tabled .pre .0) (tabled .by-position .result) (tabled .by-position .ensures)
 
 load-requires : tie.Need-load-requires
 load-requires c κs = search needs
@@ -26,14 +53,9 @@ has-requires c κs = search needs
 returns : tie.Need-returns
 returns c =
     let has = c .before in
-    let solved = has .before .before .before in
-    let start = solved .before .before .before .before .before in
-    let a = start .args in
-    none-shown (a .m .now) (a .r .now) (a .next .now) (a .back .now) (a .rows .now) (a .j) (a .x) (start .pre .0) (a .exchanged) _ _ _ _ (solved .before .solve .ensures)
-    (a .s) (start .pre .1 .0) (start .pre .1 .1) _ _ (has .before .load .ensures .0) (has .before .load .ensures .1) _ (has .has .ensures) (c .if1 .taken) _ _
-
-chain-length-requires : tie.Need-chain-length-requires
-chain-length-requires c κs = search needs
+    let first = start (tabled-at has) in
+    let load = has .before .load .ensures in
+    none-shown (first .pre .0) (line has) (first .args .s) (first .pre .1 .0) (first .pre .1 .1) (load .0) (load .1) (has .has .ensures) (c .if1 .taken) _ _
 
 nodes-requires : tie.Need-nodes-requires
 nodes-requires c κs = search needs
@@ -44,64 +66,44 @@ cast-trace c = search needs
 trace-requires : tie.Need-trace-requires
 trace-requires c κs =
     let counted = c .before .before .before .before .before in
-    let has = counted .before .before .before in
-    let solved = has .before .before .before in
-    let start = solved .before .before .before .before .before in
-    let a = start .args in
-    traceable (a .m .now) (a .r .now) (a .next .now) (a .back .now) (a .rows .now) (a .j) (a .x) (start .pre .0) (a .exchanged) _ _ _ _ (solved .before .solve .ensures)
-    (a .s) (start .pre .1 .0) (start .pre .1 .1) _ _ (has .before .load .ensures .0) (has .before .load .ensures .1) _ (has .has .ensures) (counted .before .before .if1 .left) _ _
-    (counted .before .chain-length .ensures) (counted .nodes .ensures) (timed (solved .before))
-
-chain-states-requires : tie.Need-chain-states-requires
-chain-states-requires c κs =
-    let counted = c .before .before .before .before .before .before .before in
-    let has = counted .before .before .before in
-    let solved = has .before .before .before in
-    let start = solved .before .before .before .before .before in
-    let a = start .args in
-    let few = states-few (a .m .now) (a .r .now) (a .next .now) (a .back .now) (a .rows .now) (a .j) (a .x) (start .pre .0) in
-    let chained = counted .before .chain-length .ensures in
-    (omega arith, chained)
+    let has = counted .before .before in
+    let first = start (tabled-at has) in
+    let load = has .before .load .ensures in
+    traceable (first .pre .0) (line has) (first .args .s) (first .pre .1 .0) (first .pre .1 .1) (load .0) (load .1) (has .has .ensures) (counted .before .if1 .left)
+    (tabled-at has .by-position .ensures .count) (counted .nodes .ensures) (timed (solved-at has))
 
 named-requires : tie.Need-named-requires
 named-requires c κs =
-    let counted = c .before .before .before .before .before .before .before .before in
-    let has = counted .before .before .before in
-    let solved = has .before .before .before in
-    let start = solved .before .before .before .before .before in
-    let a = start .args in
-    let trail = c .before .before .trace in
-    list-fits (a .m .now) (a .r .now) (a .next .now) (a .back .now) (a .rows .now) (a .j) (a .x) (start .pre .0) (a .exchanged) _ _ _ _ (solved .before .solve .ensures)
-    (a .s) (start .pre .1 .0) (start .pre .1 .1) _ _ (has .before .load .ensures .0) (has .before .load .ensures .1) _ (has .has .ensures) (counted .before .before .if1 .left) _ _
-    (counted .before .chain-length .ensures) (counted .nodes .ensures) (trail .result .nodes) (trail .result .positions) _ _ (trail .ensures)
+    let counted = c .before .before .before .before .before .before .before in
+    let has = counted .before .before in
+    let first = start (tabled-at has) in
+    let load = has .before .load .ensures in
+    list-fits (first .pre .0) (line has) (first .args .s) (first .pre .1 .0) (first .pre .1 .1) (load .0) (load .1) (has .has .ensures) (counted .before .if1 .left)
+    (tabled-at has .by-position .ensures .count) (counted .nodes .ensures) (c .before .trace .result .nodes) (c .before .trace .result .positions) (c .before .trace .ensures)
 
 returns-2 : tie.Need-returns-2
 returns-2 c =
-    let counted = c .before .before .before .before .before .before .before .before .before .before in
-    let has = counted .before .before .before in
-    let solved = has .before .before .before in
-    let start = solved .before .before .before .before .before in
-    let a = start .args in
-    let trail = c .before .before .before .before .trace in
-    let chain = c .before .before .chain-states in
-    let named = c .before .named in
-    shows-line (a .m .now) (a .r .now) (a .next .now) (a .back .now) (a .rows .now) (a .j) (a .x) (start .pre .0) (a .exchanged) _ _ _ _ (solved .before .solve .ensures)
-    (a .s) (start .pre .1 .0) (start .pre .1 .1) _ _ (has .before .load .ensures .0) (has .before .load .ensures .1) _ (has .has .ensures) (counted .before .before .if1 .left) _ _
-    (counted .before .chain-length .ensures) (counted .nodes .ensures) (trail .result .nodes) (trail .result .positions) _ _ (trail .ensures)
-    (chain .result) (named .result) (chain .ensures) (named .ensures)
+    let trail = c .before .before .before in
+    let counted = trail .before .before .before .before .before .before in
+    let has = counted .before .before in
+    let first = start (tabled-at has) in
+    let load = has .before .load .ensures in
+    let tabled = tabled-at has .by-position in
+    shows-line (first .pre .0) (line has) (first .args .s) (first .pre .1 .0) (first .pre .1 .1) (load .0) (load .1) (has .has .ensures) (counted .before .if1 .left)
+    (tabled .ensures .count) (counted .nodes .ensures) (trail .trace .result .nodes) (trail .trace .result .positions) (trail .trace .ensures)
+    (tabled .result .numbers) (c .before .named .result) (tabled .ensures .numbers) (c .before .named .ensures)
 
 pub show-spec : {M : Type 1} → statement M
 show-spec =
     tie.close
     (tie.spec
+    by-position-requires
     solve-requires
     load-requires
     has-requires
     returns
-    chain-length-requires
     nodes-requires
     cast-trace
     trace-requires
-    chain-states-requires
     named-requires
     returns-2)

@@ -4,14 +4,14 @@ use Prim.Native.Nat.{ℕ, _-_, _≤_}
 use native.Mathlib.Omega.{arith}
 use mathlib.Core.Bool.{_&&_}
 use Rattle.truth.specs.Rows.{rowHas}
-use Rattle.truth.specs.Product.{agrees, argumentAt}
+use Rattle.truth.specs.Product.{agrees, argument, argumentAt}
 use Rattle.truth.proofs.tables.TableLaws.{loaded}
 use Rattle.truth.proofs.product.ValuationRows.{agrees-none, agrees-yes, agrees-no}
 use Rattle.truth.proofs.product.valuation_row.Statement.{statement}
 use Rattle.truth.proofs.product.valuation_row.Tie as tie
 
 abbrev Inv-loop : tie.InvT-loop
-Inv-loop r rows j v w out₀ i₀ out i = (i ≤ v) × ((s : ℕ) → rowHas out s ≡ (rowHas out₀ s && agrees i w (argumentAt r rows j s)))
+Inv-loop r rows j v w out₀ i₀ out i = (i ≤ v) × ((s : ℕ) → rowHas out s ≡ (rowHas out₀ s && agrees i w (argumentAt rows (argument r j) s)))
 
 abbrev μ-loop : tie.MeasureT-loop
 μ-loop r rows j v w out₀ i₀ out i = v - i
@@ -19,7 +19,7 @@ abbrev μ-loop : tie.MeasureT-loop
 loop-holds : tie.Need-loop-holds Inv-loop μ-loop
 loop-holds c =
     let a = c .before .before .args in
-    (omega arith, λ s. agrees-none (a .w) (argumentAt (a .r .now) (a .rows .now) (a .j) s) _)
+    (omega arith, λ s. agrees-none (a .w) (argumentAt (a .rows .now) (argument (a .r .now) (a .j)) s) _)
 
 add-i : tie.Need-add-i Inv-loop μ-loop
 add-i c = omega arith
@@ -55,7 +55,7 @@ loop-again c =
       omega arith,
       λ s.
           let row = loaded (a .rows .now) (read .line-row .result) _ _ s (read .line-row .ensures) (ap (λ (n : ℕ). n - 1) (sym (read .before .line-word .ensures))) in
-          c .intersection .ensures s ∙ rw row (agrees-yes (a .w) (argumentAt (a .r .now) (a .rows .now) (a .j) s) (rowHas (a .all) s) (at .i) _ (at .inv .1 s)
+          c .intersection .ensures s ∙ rw row (agrees-yes (a .w) (argumentAt (a .rows .now) (argument (a .r .now) (a .j)) s) (rowHas (a .all) s) (at .i) _ (at .inv .1 s)
           (sym (c .before .before .bit .ensures) ∙ c .before .if1 .taken)),
     )
 
@@ -73,7 +73,7 @@ loop-again-2 c =
       omega arith,
       λ s.
           let row = loaded (a .rows .now) (read .line-row .result) _ _ s (read .line-row .ensures) (ap (λ (n : ℕ). n - 1) (sym (read .before .line-word .ensures))) in
-          c .difference .ensures s ∙ rw row (agrees-no (a .w) (argumentAt (a .r .now) (a .rows .now) (a .j) s) (rowHas (a .all) s) (at .i) _ (at .inv .1 s)
+          c .difference .ensures s ∙ rw row (agrees-no (a .w) (argumentAt (a .rows .now) (argument (a .r .now) (a .j)) s) (rowHas (a .all) s) (at .i) _ (at .inv .1 s)
           (sym (c .before .before .bit .ensures) ∙ c .before .if1 .left)),
     )
 

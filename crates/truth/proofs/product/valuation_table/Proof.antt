@@ -7,7 +7,7 @@ use mathlib.Core.List.{List}
 use mathlib.Core.Bool.{Bool, _&&_}
 use Rattle.truth.specs.Rows.{rowHas}
 use Rattle.truth.specs.Pairs.{NoRow}
-use Rattle.truth.specs.Product.{agrees, argumentAt}
+use Rattle.truth.specs.Product.{agrees, argument, argumentAt}
 use Rattle.truth.specs.declared.rows.Row.{Row}
 use Rattle.truth.proofs.product.ValuationRows.{valuations}
 use Rattle.truth.proofs.tables.TableLaws.{zero-row, Filled, filled-none, filled-more, empty-after}
@@ -16,7 +16,7 @@ use Rattle.truth.proofs.product.valuation_table.Tie as tie
 
 -- whether node s has the valuation w
 abbrev Valued : List ℕ → List ℕ → Row → ℕ → ℕ → ℕ → ℕ → Bool → Type 0
-Valued r rows all j v w s b = b ≡ (rowHas all s && agrees v w (argumentAt r rows j s))
+Valued r rows all j v w s b = b ≡ (rowHas all s && agrees v w (argumentAt rows (argument r j) s))
 
 abbrev Inv-loop : tie.InvT-loop
 Inv-loop r rows all j v out₀ most w₀ out w = (w ≤ most) × Filled 32 (Valued r rows all j v) w out × ((i : ℕ) → w ≤ i → NoRow out i)
