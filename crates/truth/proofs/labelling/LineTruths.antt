@@ -14,6 +14,8 @@ use Rattle.sheets.specs.Rules.{lent, automata, automaton, line, lines, ruleRefu
 use Rattle.sheets.proofs.AcceptedMachine.{nodes-sized, edge-stays}
 use Rattle.sheets.proofs.FormedLines.{formed, over-sixteen}
 use Rattle.sheets.proofs.Search.{le-or-gt}
+use Rattle.sheets.specs.Format.{nodesMost}
+use Rattle.truth.specs.Sizes.{membersMost}
 use Rattle.truth.specs.Truth.{Means, TrueAt}
 use Rattle.truth.specs.Rows.{held}
 use Rattle.truth.specs.Labelling.{rowBit, RowsTo}
@@ -55,18 +57,18 @@ module _ (M R : List ℕ) (machine : machineRefusal M ≡ 0) (rules : ruleRefusa
     room : 2 * (k - 1) + 1 < length now
     room = omega arith
 
-    bit-old : (i s : ℕ) → 1 ≤ i → i ≤ j → 1 ≤ s → s ≤ 128 → rowBit after i s ≡ rowBit now i s
+    bit-old : (i s : ℕ) → 1 ≤ i → i ≤ j → 1 ≤ s → s ≤ membersMost → rowBit after i s ≡ rowBit now i s
     bit-old i s lo hi l h =
         row-bit after i s l h ∙ rw e (stored-other now (k - 1) a b room (i - 1) s (λ q. omega arith)) ∙ sym (row-bit now i s l h)
 
-    bit-new : (i s : ℕ) → i ≡ k → 1 ≤ s → s ≤ 128 → rowBit after i s ≡ held a b s
+    bit-new : (i s : ℕ) → i ≡ k → 1 ≤ s → s ≤ membersMost → rowBit after i s ≡ held a b s
     bit-new i s q l h = row-bit after i s l h ∙ rw (q, e) (stored-here now (k - 1) a b room s)
 
     word-old : (i : ℕ) → 2 * k ≤ i → word after i ≡ word now i
     unfolding word
     word-old i h = rw e (stored-word now (k - 1) a b room i (λ q. omega arith) (λ q. omega arith))
 
-    small : nodes M ≤ 128
+    small : nodes M ≤ nodesMost
     small = nodes-sized M machine .1
 
     truth-new : (s : ℕ) → 1 ≤ s → s ≤ nodes M → T (held a b s) ↔ TrueAt lent M R k s

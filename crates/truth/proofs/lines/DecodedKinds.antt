@@ -15,6 +15,7 @@ use Rattle.sheets.specs.declared.lines.Decoded.the-variants.{Formed, Malformed}
 use Rattle.sheets.proofs.AcceptedRule.{line-fits}
 use Rattle.sheets.proofs.DecodedLines.{malformed-fails}
 use Rattle.sheets.proofs.FormedLines as FormedLines
+use Rattle.sheets.specs.Format.{signalsMost}
 use Rattle.truth.specs.Product.{argument}
 
 module _ (R : List ℕ) (j : ℕ) where
@@ -51,5 +52,5 @@ module _ (R : List ℕ) (j : ℕ) where
     pub none-malformed : decoded R j ≡ Malformed → ⊥
     none-malformed e = subst T (malformed-fails R j e) (line-fits lent R accepted j lo hi)
 
-    pub refers : (l : Line) → decoded R j ≡ Formed l → FormedLines.Formed 16 (automata R) (automaton R) j (meant l)
-    refers l e = rw (line-meant l e) at (FormedLines.formed lent R accepted 16 (FormedLines.over-sixteen lent R accepted) j lo hi)
+    pub refers : (l : Line) → decoded R j ≡ Formed l → FormedLines.Formed signalsMost (automata R) (automaton R) j (meant l)
+    refers l e = rw (line-meant l e) at (FormedLines.formed lent R accepted signalsMost (FormedLines.over-sixteen lent R accepted) j lo hi)

@@ -1,8 +1,9 @@
 -- `allow_table` meets its contract. The invariant: the rows of positions below p are made, every row has nodes of the valuations' rows alone,
 -- and the sets know what they must. The measure is what is left of t.
 use mathlib.Core.Path.{_≡_}
-use Prim.Native.Nat.{_+_, _-_, _*_, _≤_}
+use Prim.Native.Nat.{_-_, _≤_}
 use native.Mathlib.Omega.{arith}
+use Rattle.truth.specs.Sizes.{cell}
 use Rattle.truth.specs.Rows.{rowHas}
 use Rattle.truth.specs.Links.{Into, Onto}
 use Rattle.truth.specs.Product.{argument}
@@ -26,7 +27,7 @@ set-masks-requires : tie.Need-set-masks-requires Inv-loop μ-loop
 set-masks-requires c κs =
     let at = c .before .before .before .before .before in
     let l = at .loop in
-    (omega arith, at .before .before .before .before .pre .0, l .inv .1 .size, λ k h. l .inv .1 .rest (16 * l .p + k) (omega arith), l .inv .2, l .inv .3)
+    (omega arith, at .before .before .before .before .pre .0, l .inv .1 .size, λ k h. l .inv .1 .rest (cell (l .p) k) (omega arith), l .inv .2, l .inv .3)
 
 add-p : tie.Need-add-p Inv-loop μ-loop
 add-p c = omega arith
