@@ -14,12 +14,13 @@ use Rattle.truth.specs.Rows.{held, rowsHas}
 use Rattle.truth.proofs.Passed.{and-both, and-left, and-right, surely, find, within-in, each-at, each-in}
 use Rattle.truth.proofs.rows.RowLaws.{held-in}
 use Rattle.truth.proofs.tables.TableLaws.{stored-length, stored-here, stored-other}
+use Rattle.comparison.specs.Sizes.{blockPlaces, blockWords}
 use Rattle.comparison.specs.Blocks.{In, AllIn, Meets, Unsplit, Split}
 use Rattle.comparison.specs.Tables.{PartedRows, LinedBlocks, OfNodes, TellsMeets, TellsSplit}
 
 -- ---- parting
 
-pub parted-rows : (B B₁ B₂ : List ℕ) (count c a b d e : ℕ) (x : ℕ → Bool) → c < count → count < 256 → length B ≡ 512
+pub parted-rows : (B B₁ B₂ : List ℕ) (count c a b d e : ℕ) (x : ℕ → Bool) → c < count → count < blockPlaces → length B ≡ blockWords
     → B₁ ≡ set (set B (2 * c) a) (2 * c + 1) b → B₂ ≡ set (set B₁ (2 * count) d) (2 * count + 1) e
     → ((s : ℕ) → held a b s ≡ (rowsHas B c s && x s)) → ((s : ℕ) → held d e s ≡ (rowsHas B c s && not (x s))) → PartedRows count c x B B₂
 parted-rows B B₁ B₂ count c a b d e x low high size e₁ e₂ inside outside = record {
@@ -31,7 +32,7 @@ parted-rows B B₁ B₂ count c a b d e x low high size e₁ e₂ inside outside
   };
 }
   where
-    size₁ : length B₁ ≡ 512
+    size₁ : length B₁ ≡ blockWords
     size₁ = ap length e₁ ∙ stored-length B c a b (omega arith) ∙ size
 
     fits : 2 * count + 1 < length B₁
@@ -40,7 +41,7 @@ parted-rows B B₁ B₂ count c a b d e x low high size e₁ e₂ inside outside
     unchanged : (q s : ℕ) → q ≢ count → rowsHas B₂ q s ≡ rowsHas B₁ q s
     unchanged q s n = ap (λ (l : List ℕ). rowsHas l q s) e₂ ∙ stored-other B₁ count d e fits q s n
 
-pub lined-blocks : (l : List ℕ) (count c n : ℕ) → c < count → count < 256 → length l ≡ 256
+pub lined-blocks : (l : List ℕ) (count c n : ℕ) → c < count → count < blockPlaces → length l ≡ blockPlaces
     → LinedBlocks count c n l (set (set l c (n + 4)) count (n + 6))
 lined-blocks l count c n low high size = record {
   size = simp length-set size;

@@ -7,6 +7,7 @@ use lib.ListN.{length, getD, drop, length-append}
 use Rattle.truth.specs.Passed.{none, firstNo, nodes, signals}
 use Rattle.truth.specs.Rows.{rowsHas}
 use Rattle.truth.proofs.Passed.{nodes-sized}
+use Rattle.comparison.specs.Sizes.{writtenSpace, writtenMost}
 use Rattle.comparison.specs.Lines.{Entry, neg, sheet, Downward, HoldsLines, Adds}
 use Rattle.comparison.specs.Needed.{Shortened, Listed}
 use Rattle.comparison.specs.Refinement.{LinesIn}
@@ -43,7 +44,7 @@ module _ (M₁ M₂ before : List ℕ) where
           blocks-few (signals M₁) M₁ M₂ (k .first) (k .second) (r .ls) (p .count) (λ c. getD (p .line) c 0) (rowsHas (p .first)) (rowsHas (p .second)) (r .refinement)
 
       -- the lines and one more fit the space
-      pub fits : (p .count ≤ 128) × (39 + 6 * p .lines ≤ length before) × (p .lines < 938)
+      pub fits : (p .count ≤ 128) × (39 + 6 * p .lines ≤ length before) × (p .lines < writtenMost)
       fits =
           let k = known in
           let short = r .short in
@@ -67,7 +68,7 @@ module _ (M₁ M₂ before : List ℕ) where
             }
 
         -- "not" of the line of the block was written below the lines
-        module _ (n : c ≡ 0 → ⊥) (w : List ℕ) (size : length (p .words) ≡ 5632) (adds : Adds (p .words) w (p .lines) (neg (getD (p .line) (c - 1) 0) ∷ [])) where
+        module _ (n : c ≡ 0 → ⊥) (w : List ℕ) (size : length (p .words) ≡ writtenSpace) (adds : Adds (p .words) w (p .lines) (neg (getD (p .line) (c - 1) 0) ∷ [])) where
           block : c - 1 < p .count
           block = let high = s .high in omega arith
 

@@ -12,6 +12,7 @@ use Rattle.truth.specs.Passed.{nodes, signals, machineRefusal, within}
 use Rattle.truth.specs.Rows.{held, rowsHas}
 use Rattle.truth.proofs.Passed.{and-left, passed, within-in, nodes-sized, signals-sized}
 use Rattle.truth.proofs.tables.TableLaws.{stored-length, stored-here}
+use Rattle.comparison.specs.Sizes.{blockPlaces, blockWords}
 use Rattle.comparison.specs.Bounded.{Bounded}
 use Rattle.comparison.specs.Lines.{firstLines, HoldsLines}
 use Rattle.comparison.specs.Tables.{OfNodes}
@@ -19,9 +20,9 @@ use Rattle.comparison.specs.Stages.{Staged}
 use Rattle.comparison.proofs.FirstLines.{first-length, first-entry, begins}
 
 -- the nodes 1 to n in row 0
-module _ (M before after : List ℕ) (low high n : ℕ) (size : length before ≡ 512) (stored : after ≡ set (set before 0 low) 1 high)
+module _ (M before after : List ℕ) (low high n : ℕ) (size : length before ≡ blockWords) (stored : after ≡ set (set before 0 low) 1 high)
     (row : (s : ℕ) → held low high s ≡ (leb s n && within 1 128 s)) (same : n ≡ nodes M) where
-  first-size : length after ≡ 512
+  first-size : length after ≡ blockWords
   first-size = ap length stored ∙ stored-length before 0 low high (omega arith) ∙ size
 
   first-row : (s : ℕ) → rowsHas after 0 s ≡ (leb s (nodes M) && within 1 128 s)
@@ -38,7 +39,7 @@ module _ (M before after : List ℕ) (low high n : ℕ) (size : length before �
 
 pub begun : (M₁ M₂ : List ℕ) → machineRefusal M₁ ≡ 0 → machineRefusal M₂ ≡ 0 → Bounded M₁ M₂
     → (a n₁ n₂ : ℕ) → a ≡ signals M₁ → n₁ ≡ nodes M₁ → n₂ ≡ nodes M₂
-    → (first₀ first second₀ second line words : List ℕ) (l₁ h₁ l₂ h₂ : ℕ) → length first₀ ≡ 512 → length second₀ ≡ 512 → length line ≡ 256
+    → (first₀ first second₀ second line words : List ℕ) (l₁ h₁ l₂ h₂ : ℕ) → length first₀ ≡ blockWords → length second₀ ≡ blockWords → length line ≡ blockPlaces
     → first ≡ set (set first₀ 0 l₁) 1 h₁ → second ≡ set (set second₀ 0 l₂) 1 h₂
     → ((s : ℕ) → held l₁ h₁ s ≡ (leb s n₁ && within 1 128 s)) → ((s : ℕ) → held l₂ h₂ s ≡ (leb s n₂ && within 1 128 s)) → HoldsLines words (firstLines a)
     → Staged M₁ M₂ 5 (record { first = first; second = second; line = set line 0 (a + 2); words = words; count = 1; lines = a + 2 })

@@ -6,6 +6,7 @@ use native.Mathlib.Omega.{arith}
 use mathlib.Core.List.{List, [], _∷_, _++_, append-assoc}
 use lib.ListN.{length, set, take, length-append, length-set}
 use lib.Seq.{take-suc-set}
+use Rattle.comparison.specs.Sizes.{writtenSpace}
 use Rattle.comparison.specs.Lines.{Entry, sig, neg, alt, words, lineWords, signalLines, everywhere, firstLines, split, HoldsLines, Adds}
 use Rattle.comparison.proofs.Lines.{words-below}
 use Rattle.comparison.proofs.FirstLines.{signal-length}
@@ -40,7 +41,7 @@ six-stored l k u v w x y z h =
 -- ---- lines
 
 -- the words of a line were stored below n lines
-pub adds-line : (before after : List ℕ) (n : ℕ) (l : Entry) → length after ≡ 5632 → take (6 * n + 6) after ≡ take (6 * n) before ++ words l → Adds before after n (l ∷ [])
+pub adds-line : (before after : List ℕ) (n : ℕ) (l : Entry) → length after ≡ writtenSpace → take (6 * n + 6) after ≡ take (6 * n) before ++ words l → Adds before after n (l ∷ [])
 adds-line before after n l size e = record { size = size; adds = λ ls len h. record { size = size; stands = stands ls len (h .stands) } }
   where
     stands : (ls : List Entry) → length ls ≡ n → take (6 * length ls) before ≡ lineWords ls → take (6 * length (ls ++ l ∷ [])) after ≡ lineWords (ls ++ l ∷ [])
@@ -49,7 +50,7 @@ adds-line before after n l size e = record { size = size; adds = λ ls len h. re
         let k : 6 * length ls ≡ 6 * n = omega arith in
         ap (λ (i : ℕ). take i after) m ∙ e ∙ rw (← k, h, words-below)
 
-pub holds-none : (space : List ℕ) → length space ≡ 5632 → HoldsLines space []
+pub holds-none : (space : List ℕ) → length space ≡ writtenSpace → HoldsLines space []
 unfolding lineWords
 holds-none space size = record { size = size; stands = refl }
 

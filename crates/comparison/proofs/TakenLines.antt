@@ -3,7 +3,7 @@ use mathlib.Core.Path.{_≡_, refl, sym, ap, ap₂, _∙_}
 use Prim.Native.Nat.{ℕ, _+_, _-_, _*_, _≤_, _<_}
 use native.Mathlib.Omega.{arith}
 use mathlib.Core.List.{List}
-use lib.ListN.{length, getD, take}
+use lib.ListN.{length, getD}
 use lib.Seq.{getD-take}
 use Rattle.comparison.specs.Lines.{Entry, sig, neg, alt, next, words, lineWords, entry, HoldsLines}
 use Rattle.comparison.proofs.Lines.{word-of-line}

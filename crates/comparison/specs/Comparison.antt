@@ -3,10 +3,9 @@ use mathlib.Core.Path.{_≡_}
 use mathlib.Core.Logic.{_⊎_}
 use Prim.Native.Nat.{ℕ, _+_, _*_, _≤_}
 use mathlib.Core.List.{List, [], _∷_, _++_}
-use mathlib.Core.Bool.{Bool, true, false}
 use lib.ListN.{length, take, drop}
 use lib.Dec.{T, leb, eqb}
-use Rattle.truth.specs.Passed.{none, firstNo, Question, ask, nodes, signals, machineQuestions, machineRefusal, lent, lifted, ruleRefusal, overSignals, lines}
+use Rattle.truth.specs.Passed.{none, firstNo, Question, ask, nodes, signals, lent, lifted, ruleRefusal, overSignals, lines}
 use Rattle.truth.specs.Truth.{Keeps}
 use Rattle.truth.specs.Labelling.{labelQuestions}
 

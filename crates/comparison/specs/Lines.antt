@@ -3,6 +3,7 @@ use mathlib.Core.Path.{_≡_}
 use Prim.Native.Nat.{ℕ, zero, suc, _+_, _-_, _*_, _≤_, _<_}
 use mathlib.Core.List.{List, [], _∷_, _++_}
 use lib.ListN.{length, getD, take}
+use Rattle.comparison.specs.Sizes.{writtenSpace}
 use Rattle.comparison.specs.Comparison.{nextWords}
 
 -- signal i; not line j; line i or line j; some next node has line j
@@ -68,12 +69,12 @@ firstLines a = signalLines a ++ everywhere (length (signalLines a)) 1
 unfoldable pub split : ℕ → ℕ → ℕ → List Entry
 split n b p = neg b ∷ neg p ∷ alt (n + 1) (n + 2) ∷ neg (n + 3) ∷ alt (n + 1) p ∷ neg (n + 5) ∷ []
 
--- the words of the lines stand at the head of the space of 5632 words, enough for 938 lines
+-- the words of the lines stand at the head of the space in which lines are written
 pub record HoldsLines (space : List ℕ) (ls : List Entry) : Type 0 where
-  pub size : length space ≡ 5632
+  pub size : length space ≡ writtenSpace
   pub stands : take (6 * length ls) space ≡ lineWords ls
 
 -- below n lines, whatever they are, the lines `more` are written
 pub record Adds (before after : List ℕ) (n : ℕ) (more : List Entry) : Type 0 where
-  pub size : length after ≡ 5632
+  pub size : length after ≡ writtenSpace
   pub adds : (ls : List Entry) → length ls ≡ n → HoldsLines before ls → HoldsLines after (ls ++ more)

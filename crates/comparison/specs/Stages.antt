@@ -5,8 +5,9 @@ use mathlib.Core.List.{List}
 use mathlib.Core.Bool.{Bool}
 use lib.ListN.{length, getD, take}
 use lib.Dec.{T}
-use Rattle.truth.specs.Passed.{kripke, nodes, signals, machineRefusal}
+use Rattle.truth.specs.Passed.{kripke, signals, machineRefusal}
 use Rattle.truth.specs.Rows.{rowsHas, leadsInto}
+use Rattle.comparison.specs.Sizes.{blockPlaces, blockWords}
 use Rattle.comparison.specs.Bounded.{Bounded}
 use Rattle.comparison.specs.Lines.{Entry, sig, lineWords, entry, HoldsLines}
 use Rattle.comparison.specs.Blocks.{Exact, Members, Unsplit, Split}
@@ -20,9 +21,9 @@ pub record Staged (M₁ M₂ : List ℕ) (spare : ℕ) (st : State) : Type 0 whe
   pub accepted₁ : machineRefusal M₁ ≡ 0
   pub accepted₂ : machineRefusal M₂ ≡ 0
   pub bounded : Bounded M₁ M₂
-  pub size₁ : length (st .first) ≡ 512
-  pub size₂ : length (st .second) ≡ 512
-  pub sizeLine : length (st .line) ≡ 256
+  pub size₁ : length (st .first) ≡ blockWords
+  pub size₂ : length (st .second) ≡ blockWords
+  pub sizeLine : length (st .line) ≡ blockPlaces
   pub ls : List Entry
   pub number : length ls ≡ st .lines
   pub holds : HoldsLines (st .words) ls

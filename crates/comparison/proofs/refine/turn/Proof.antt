@@ -9,6 +9,7 @@ use lib.ListN.{length}
 use Rattle.truth.specs.Rows.{rowHas, rowsHas}
 use Rattle.truth.specs.Targets.{TailOf}
 use Rattle.truth.proofs.tables.TableLaws.{loaded}
+use Rattle.comparison.specs.Sizes.{blockPlaces, nodePlaces}
 use Rattle.comparison.specs.Tables.{State, state, written, firstOf, secondOf, Room}
 use Rattle.comparison.specs.Signatures.{TellsMark}
 use Rattle.comparison.proofs.StagedSplits.{blocks-fit, lines-fit}
@@ -18,12 +19,12 @@ use Rattle.comparison.proofs.refine.turn.Tie as tie
 
 abbrev Inv-loop : tie.InvT-loop
 Inv-loop m1 m2 first₀ second₀ line₀ words₀ tail1 tail2 mark1₀ mark2₀ all₀ so-far₀ c₀ first second line words mark1 mark2 all so-far c =
-    TailOf m1 tail1 × TailOf m2 tail2 × (length mark1 ≡ 256) × (length mark2 ≡ 256)
+    TailOf m1 tail1 × TailOf m2 tail2 × (length mark1 ≡ nodePlaces) × (length mark2 ≡ nodePlaces)
     × Turning m1 m2 (state first₀ second₀ line₀ words₀ so-far₀) (state first second line words so-far) mark1 mark2 (rowHas all) c
 
 abbrev μ-loop : tie.MeasureT-loop
 μ-loop m1 m2 first₀ second₀ line₀ words₀ tail1 tail2 mark1₀ mark2₀ all₀ so-far₀ c₀ first second line words mark1 mark2 all so-far c =
-    256 * (128 - so-far .count) + (128 - c)
+    blockPlaces * (128 - so-far .count) + (128 - c)
 
 -- the tables as they come, and at the loop's head
 abbrev entry : tie.Start Inv-loop μ-loop → State
