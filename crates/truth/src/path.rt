@@ -12,7 +12,7 @@ ghost use Rattle.truth.specs.OneLine.{Ready, PathReady};
 ghost use Rattle.truth.specs.Rows.{rowsHas};
 ghost use Rattle.truth.specs.Product.{good, stateAt};
 ghost use Rattle.truth.specs.Lists.{Lasso};
-ghost use Rattle.truth.specs.Walked.{placed};
+ghost use Rattle.truth.specs.Trails.{placed};
 ghost use Rattle.truth.specs.Path as Path;
 ghost use Rattle.truth.specs.PathAnswers.{lengthOf, MadeFor, PathAnswer};
 ghost use Rattle.truth.specs.Shows.{ShowsLine};
@@ -21,7 +21,7 @@ use crate::lines::solve;
 use crate::positions::load;
 use crate::product::chain_states;
 use crate::structure;
-use crate::walk::walk;
+use crate::trail::trace;
 use sheets::automata;
 use sheets::checks;
 use sheets::machine;
@@ -130,7 +130,7 @@ fn show(
     }
     let t = automata::chain_length(r, x);
     let n = machine::nodes(m);
-    let found = walk(
+    let found = trace(
         &solved.allow,
         next,
         t as usize,

@@ -20,7 +20,7 @@ use Rattle.sheets.proofs.SheetTable.{BothAccepted, Sheeted, call-accepted, call
 use Rattle.truth.specs.Truth.{TrueAt}
 use Rattle.truth.specs.Labelling.{RowsTo}
 use Rattle.truth.specs.OneLine.{Ready, PathReady, Holds}
-use Rattle.truth.specs.Walked.{placed}
+use Rattle.truth.specs.Trails.{placed}
 use Rattle.truth.specs.Path.{asked, q18, q19, pathQuestions}
 use Rattle.truth.specs.PathAnswers.{refusalOf, MadePath, MadeFor}
 use Rattle.truth.specs.Shows.{ShowsLine}
