@@ -7,7 +7,7 @@ use native.Mathlib.Decide.{decLe, ℕ-discrete}
 use mathlib.Core.List.{List}
 use lib.ListN.{length, getD, set, length-set}
 use lib.Seq.{getD-set-same, getD-set-other}
-use Rattle.truth.specs.Passed.{nodes, lifted, machineRefusal}
+use Rattle.truth.specs.Passed.{nodes, lifted, machineRefusal, lineWords}
 use Rattle.truth.proofs.Passed.{sum-iff, edge-stays}
 use Rattle.truth.proofs.Decided.{truth-decided}
 use Rattle.comparison.specs.Sizes.{writtenMost, linePlaces}
@@ -36,7 +36,7 @@ both-next ls i j k x y M ok s lo hi = Iff·trans (x M ok s lo hi) (Iff·symm (y 
 module _ (a : ℕ) (ls : List Entry) (down : Downward a ls) where
   -- the truth of a line is decided
   known : (j : ℕ) → 1 ≤ j → j ≤ length ls → (M : List ℕ) → machineRefusal M ≡ 0 → (s : ℕ) → 1 ≤ s → s ≤ nodes M → Dec (TrueIn M ls j s)
-  known j l h M ok s = truth-decided (lifted 6) M (sheet ls) ok (accepted a ls down (omega arith)) j s l (omega (arith, lines-are ls))
+  known j l h M ok s = truth-decided (lifted lineWords) M (sheet ls) ok (accepted a ls down (omega arith)) j s l (omega (arith, lines-are ls))
 
   turned : {X Y : Type 0} → Dec Y → X ↔ (Y → ⊥) → Y ↔ (X → ⊥)
   turned (yes y) e = (λ z x. e .0 x z, λ f. y)

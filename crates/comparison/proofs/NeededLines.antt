@@ -7,7 +7,7 @@ use native.Mathlib.Decide.{decLe, ℕ-discrete}
 use mathlib.Core.List.{List, [], _∷_, _++_}
 use lib.ListN.{length, getD, set, length-set, length-append}
 use lib.Seq.{getD-set-same, getD-set-other}
-use Rattle.truth.specs.Passed.{nodes, machineRefusal}
+use Rattle.truth.specs.Passed.{nodes, machineRefusal, signalsMost}
 use Rattle.comparison.specs.Sizes.{writtenSpace, writtenMost, linePlaces}
 use Rattle.comparison.specs.Lines.{Entry, sig, neg, alt, next, entry, Downward, HoldsLines, Adds}
 use Rattle.comparison.specs.Blocks.{TrueIn}
@@ -148,7 +148,7 @@ module _ (a : ℕ) (ls : List Entry) (down : Downward a ls) (same needed : List 
 
 -- ---- copies
 
-pub copied-none : (a : ℕ) (ls : List Entry) (same needed number out : List ℕ) → a ≤ 16 → length out ≡ writtenSpace → Copied a ls same needed 0 number out 0
+pub copied-none : (a : ℕ) (ls : List Entry) (same needed number out : List ℕ) → a ≤ signalsMost → length out ≡ writtenSpace → Copied a ls same needed 0 number out 0
 copied-none a ls same needed number out few size = record {
   lines = [];
   count = refl;

@@ -1,5 +1,6 @@
 -- The sizes of comparison's tables. The code has them in sizes.rt.
-use Prim.Native.Nat.{ℕ, _*_}
+use Prim.Native.Nat.{ℕ}
+use Rattle.truth.specs.Sizes.{tableRows, tableWords}
 
 -- the space in which lines are written: its words, and the lines that it has room for
 abbrev pub writtenSpace : ℕ
@@ -12,12 +13,12 @@ writtenMost = 938
 abbrev pub linePlaces : ℕ
 linePlaces = 1024
 
--- a table with a place for each block, and one with a row of two words for each block
+-- a table with a place for each block, and one with a row for each block
 abbrev pub blockPlaces : ℕ
-blockPlaces = 256
+blockPlaces = tableRows
 
 abbrev pub blockWords : ℕ
-blockWords = 2 * blockPlaces
+blockWords = tableWords
 
 -- a table with a place for each number of a node
 abbrev pub nodePlaces : ℕ

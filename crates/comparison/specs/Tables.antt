@@ -5,7 +5,7 @@ use mathlib.Core.List.{List}
 use mathlib.Core.Bool.{Bool, true, false}
 use lib.ListN.{length, getD}
 use lib.Dec.{T}
-use Rattle.truth.specs.Passed.{nodes}
+use Rattle.truth.specs.Passed.{nodes, nodesMost}
 use Rattle.truth.specs.Rows.{rowsHas}
 use Rattle.comparison.specs.Sizes.{writtenSpace, writtenMost, blockPlaces, blockWords}
 use Rattle.comparison.specs.Lines.{split, Adds}
@@ -71,7 +71,7 @@ pub record Advanced (before after : Stand) : Type 0 where
 -- room for a split of block c
 pub record Room (st : State) (c : ℕ) : Type 0 where
   pub block : c < st .count
-  pub count : st .count < 128
+  pub count : st .count < nodesMost
   pub lines : st .lines + 6 ≤ writtenMost
   pub first : length (st .first) ≡ blockWords
   pub second : length (st .second) ≡ blockWords

@@ -3,6 +3,7 @@ ghost use mathlib.Core.Path.{_≡_};
 ghost use mathlib.Core.List.{List};
 ghost use Prim.Native.Nat.{ℕ, _<_};
 ghost use lib.ListN.{length};
+ghost use Rattle.truth.specs.Passed.{nodesMost};
 ghost use Rattle.truth.specs.Rows.{rowHas, rowsHas};
 ghost use Rattle.comparison.specs.Sizes.{writtenMost, blockPlaces, blockWords};
 ghost use Rattle.comparison.specs.Tables.{state, PartedRows, LinedBlocks, Advanced, Room, SplitBlock, TellsMeets, TellsSplit};
@@ -20,7 +21,7 @@ pub struct Stand {
 
 impl Stand {
     fn after_split(self) -> Stand
-        requires { ⌜ (self .count < 128) × (self .lines < writtenMost) ⌝ }
+        requires { ⌜ (self .count < nodesMost) × (self .lines < writtenMost) ⌝ }
         ensures { λ r. ⌜ Advanced self r ⌝ }
     {
         Stand {

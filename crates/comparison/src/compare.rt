@@ -5,6 +5,8 @@ ghost use mathlib.Core.Bool.{not, _&&_};
 ghost use mathlib.Core.List.{List, _++_};
 ghost use lib.ListN.{length, drop};
 ghost use lib.Seq.{paste};
+ghost use Rattle.truth.specs.Sizes.{membersMost};
+ghost use Rattle.truth.specs.Passed.{nodesMost, lineWords, nextHead};
 ghost use Rattle.truth.specs.Passed as Passed;
 ghost use Rattle.truth.specs.Rows.{rowHas, rowsHas};
 ghost use Rattle.comparison.specs.Sizes.{writtenSpace, writtenMost, blockPlaces};
@@ -30,7 +32,7 @@ pub enum Answer {
 }
 
 // The words of a written rule before its lines: the header, of which the number of lines is put in, and the automaton Next.
-const NEXT: [u16; 33] = [
+const NEXT: [u16; sizes::NEXT_HEAD] = [
     1,
     4,
     5,
@@ -81,10 +83,10 @@ fn last_refusal(m1: &[u16], m2: &[u16], space: usize) -> u16
         return 20;
     }
     let n = header::nodes(m1) as usize + header::nodes(m2) as usize;
-    if n > 128 {
+    if n > sizes::NODES {
         return 21;
     }
-    if space < 33 + 6 * (a as usize + 7 * n) {
+    if space < sizes::NEXT_HEAD + sizes::LINE_WORDS * (a as usize + sizes::LINES_A_NODE * n) {
         return 22;
     }
     0
@@ -117,7 +119,7 @@ fn compare_refusal(m1: &[u16], m2: &[u16], space: usize) -> FirstNo
 // Whether block c of a machine has a node of the row.
 fn block_has(rows: &[u64; sizes::BLOCK_WORDS], c: u16, x: Row) -> bool
     requires { ⌜ c < blockPlaces ⌝ }
-    ensures { λ r. ⌜ r ≡ not (Passed.each 128 (λ s. not (rowsHas (now (rows .entry)) c s && rowHas x s))) ⌝ }
+    ensures { λ r. ⌜ r ≡ not (Passed.each membersMost (λ s. not (rowsHas (now (rows .entry)) c s && rowHas x s))) ⌝ }
 {
     load(rows, c as usize).meets(x)
 }
@@ -130,7 +132,7 @@ fn one_sided<'a>(
     second: &'a [u64; sizes::BLOCK_WORDS],
     count: u16,
 ) -> u16
-    requires { ⌜ (Passed.nodes (now m1) ≤ 128) × (Passed.nodes (now m2) ≤ 128) × (count ≤ blockPlaces) ⌝ }
+    requires { ⌜ (Passed.nodes (now m1) ≤ nodesMost) × (Passed.nodes (now m2) ≤ nodesMost) × (count ≤ blockPlaces) ⌝ }
     ensures { λ r. ⌜ OneSided (now (m1 .entry)) (now (m2 .entry)) (rowsHas (now (first .entry))) (rowsHas (now (second .entry))) count r ⌝ }
 {
     let starts1 = structure::start_row(m1);
@@ -161,24 +163,29 @@ fn copy(space: &mut [u16], at: usize, words: &[u16], n: usize)
 
 // The words before the lines, for a rule of n lines.
 fn put_head(space: &mut [u16], n: u16)
-    requires { ⌜ 33 ≤ length (now space) ⌝ }
-    ensures { λ r. ⌜ now (space .exit) ≡ head n ++ drop 33 (now (space .entry)) ⌝ }
+    requires { ⌜ nextHead ≤ length (now space) ⌝ }
+    ensures { λ r. ⌜ now (space .exit) ≡ head n ++ drop nextHead (now (space .entry)) ⌝ }
 {
-    copy(space, 0, &NEXT, 33);
+    copy(space, 0, &NEXT, sizes::NEXT_HEAD);
     space[3] = n;
 }
 
 // The words of n lines.
 fn put_lines(space: &mut [u16], written: &[u16; sizes::WRITTEN_SPACE], n: u16)
-    requires { ⌜ (33 + 6 * n ≤ length (now space)) × (n ≤ writtenMost) × (length (now written) ≡ writtenSpace) ⌝ }
-    ensures { λ r. ⌜ now (space .exit) ≡ paste (now (space .entry)) 33 (now (written .entry)) (6 * n) ⌝ }
+    requires { ⌜ (nextHead + lineWords * n ≤ length (now space)) × (n ≤ writtenMost) × (length (now written) ≡ writtenSpace) ⌝ }
+    ensures { λ r. ⌜ now (space .exit) ≡ paste (now (space .entry)) nextHead (now (written .entry)) (lineWords * n) ⌝ }
 {
-    copy(space, 33, written, 6 * n as usize);
+    copy(
+        space,
+        sizes::NEXT_HEAD,
+        written,
+        sizes::LINE_WORDS * n as usize,
+    );
 }
 
 // The sheet of the lines that the last of n written lines needs.
 fn put_sheet(space: &mut [u16], written: &[u16; sizes::WRITTEN_SPACE], n: u16)
-    requires { ⌜ (33 + 6 * n ≤ length (now space)) × (1 ≤ n) × (n ≤ writtenMost) × Listed (now written) n ⌝ }
+    requires { ⌜ (nextHead + lineWords * n ≤ length (now space)) × (1 ≤ n) × (n ≤ writtenMost) × Listed (now written) n ⌝ }
     ensures { λ r. ⌜ ((a : ℕ) (ls : List Entry) → Downward a ls → HoldsLines (now (written .entry)) ls → length ls ≡ n → (short : List Entry) × Shortened a ls short × (now (space .exit) ≡ sheet short ++ drop (length (sheet short)) (now (space .entry)))) ⌝ }
 {
     let mut lines = [0u16; sizes::WRITTEN_SPACE];

@@ -48,7 +48,7 @@ fn line_at(words: &[u16; sizes::WRITTEN_SPACE], i: u16) -> Line
     requires { ⌜ (1 ≤ i) × (i ≤ writtenMost) ⌝ }
     ensures { λ r. ⌜ ((ls : List Entry) → HoldsLines (now (words .entry)) ls → i ≤ length ls → entry ls i ≡ entryOf r) ⌝ }
 {
-    let k = 6 * (i as usize - 1);
+    let k = sizes::LINE_WORDS * (i as usize - 1);
     let op = words[k];
     let x = words[k + 1];
     let y = words[k + 2];

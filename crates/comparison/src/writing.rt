@@ -3,6 +3,7 @@ ghost use mathlib.Core.Path.{_≡_};
 ghost use mathlib.Core.List.{[], _∷_, _++_};
 ghost use Prim.Native.Nat.{_+_, _*_, _<_, _≤_};
 ghost use lib.ListN.{length, take};
+ghost use Rattle.truth.specs.Passed.{lineWords};
 ghost use Rattle.comparison.specs.Sizes.{writtenSpace, writtenMost};
 ghost use Rattle.comparison.specs.Lines.{sig, neg, alt, next, signalLines, firstLines, split, HoldsLines, Adds};
 use crate::sizes;
@@ -10,9 +11,9 @@ use crate::sizes;
 // The words of line n + 1, of which the last three are always 0.
 fn write_words(out: &mut [u16; sizes::WRITTEN_SPACE], n: u16, op: u16, x: u16, y: u16)
     requires { ⌜ (n < writtenMost) × (length (now out) ≡ writtenSpace) ⌝ }
-    ensures { λ r. ⌜ (length (now (out .exit)) ≡ writtenSpace) × (take (6 * n + 6) (now (out .exit)) ≡ take (6 * n) (now (out .entry)) ++ op ∷ x ∷ y ∷ 0 ∷ 0 ∷ 0 ∷ []) ⌝ }
+    ensures { λ r. ⌜ (length (now (out .exit)) ≡ writtenSpace) × (take (lineWords * n + lineWords) (now (out .exit)) ≡ take (lineWords * n) (now (out .entry)) ++ op ∷ x ∷ y ∷ 0 ∷ 0 ∷ 0 ∷ []) ⌝ }
 {
-    let k = 6 * (n as usize);
+    let k = sizes::LINE_WORDS * (n as usize);
     out[k] = op;
     out[k + 1] = x;
     out[k + 2] = y;

@@ -25,3 +25,6 @@ pub const SET_WORDS: usize = ROW_WORDS * POSITIONS;
 
 // A table with a number for each pair of a position p and a node s, that of a pair at format::NODES * p + (s - 1): its numbers.
 pub const PAIRS: usize = POSITIONS * format::NODES;
+
+// A table with a place for each number of a node.
+pub const NODE_PLACES: usize = 256;
