@@ -7,8 +7,9 @@ use native.Mathlib.Decide.{decLe, ℕ-discrete}
 use mathlib.Core.List.{List, [], _∷_, _++_}
 use lib.ListN.{length, getD, set, length-set, length-append}
 use lib.Seq.{getD-set-same, getD-set-other}
-use Rattle.truth.specs.Passed.{nodes, machineRefusal}
-use Rattle.comparison.specs.Lines.{Entry, sig, neg, alt, next, entry, Refers, Downward, HoldsLines, Adds}
+use Rattle.truth.specs.Passed.{nodes, machineRefusal, signalsMost}
+use Rattle.comparison.specs.Sizes.{writtenSpace, writtenMost, linePlaces}
+use Rattle.comparison.specs.Lines.{Entry, sig, neg, alt, next, entry, Downward, HoldsLines, Adds}
 use Rattle.comparison.specs.Blocks.{TrueIn}
 use Rattle.comparison.specs.Needed.{renumber, marks, EachLine, SomeLine, Same, AllStand, Wanted, Closed, Copied, Needs, itself, through, Shortened}
 use Rattle.comparison.proofs.TrueLines.{true-says}
@@ -83,8 +84,8 @@ marks-each f (alt i j) needed x =
     (set-grows (set needed (f i) 1) (f j) (f i) (set-marks needed (f i) (x .0)) (omega arith), set-marks (set needed (f i) 1) (f j) (omega arith))
 marks-each f (next j) needed x = set-marks needed (f j) x
 
-module _ (a : ℕ) (ls : List Entry) (down : Downward a ls) (same needed : List ℕ) (stands : AllStand ls (length ls) same) (size : length needed ≡ 1024)
-    (j : ℕ) (inside : j ≤ length ls) (small : j ≤ 938) where
+module _ (a : ℕ) (ls : List Entry) (down : Downward a ls) (same needed : List ℕ) (stands : AllStand ls (length ls) same) (size : length needed ≡ linePlaces)
+    (j : ℕ) (inside : j ≤ length ls) (small : j ≤ writtenMost) where
   pub closed-none : ((k : ℕ) → getD needed k 0 ≡ 0) → Closed ls same j j (set needed j 1)
   closed-none z = record {
     last = set-marks needed j (omega arith);
@@ -147,7 +148,7 @@ module _ (a : ℕ) (ls : List Entry) (down : Downward a ls) (same needed : List 
 
 -- ---- copies
 
-pub copied-none : (a : ℕ) (ls : List Entry) (same needed number out : List ℕ) → a ≤ 16 → length out ≡ 5632 → Copied a ls same needed 0 number out 0
+pub copied-none : (a : ℕ) (ls : List Entry) (same needed number out : List ℕ) → a ≤ signalsMost → length out ≡ writtenSpace → Copied a ls same needed 0 number out 0
 copied-none a ls same needed number out few size = record {
   lines = [];
   count = refl;
@@ -161,8 +162,8 @@ copied-none a ls same needed number out few size = record {
   refers = λ m lo hi. absurd (omega arith);
 }
 
-module _ (a : ℕ) (ls : List Entry) (down : Downward a ls) (same needed : List ℕ) (stands : AllStand ls (length ls) same) (i : ℕ) (inside : i + 1 ≤ length ls) (small : i < 938)
-    (number out : List ℕ) (c : ℕ) (size : length number ≡ 1024) (x : Copied a ls same needed i number out c) where
+module _ (a : ℕ) (ls : List Entry) (down : Downward a ls) (same needed : List ℕ) (stands : AllStand ls (length ls) same) (i : ℕ) (inside : i + 1 ≤ length ls) (small : i < writtenMost)
+    (number out : List ℕ) (c : ℕ) (size : length number ≡ linePlaces) (x : Copied a ls same needed i number out c) where
   -- a line that is not needed
   pub copied-skipped : getD needed (i + 1) 0 ≡ 0 → Copied a ls same needed (i + 1) number out c
   copied-skipped z = record {

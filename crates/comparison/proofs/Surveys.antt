@@ -9,12 +9,14 @@ use mathlib.Core.Bool.{Bool, true, false, not, _&&_, _||_}
 use lib.ListN.{length, getD, set, length-set}
 use lib.Seq.{getD-set-same, getD-set-other}
 use lib.Dec.{T, T-not, not-T}
+use Rattle.truth.specs.Sizes.{membersMost}
 use Rattle.truth.specs.Passed.{each}
 use Rattle.truth.specs.Rows.{rowHas, marksInto, tally, First}
 use Rattle.truth.specs.declared.rows.Row.{Row}
 use Rattle.truth.proofs.Passed.{and-left, and-right, and-both, dec-test}
 use Rattle.truth.proofs.rows.RowLaws.{none-passes, tally-number}
 use Rattle.truth.proofs.rows.RowWalks.{Less, less-in, less-or, less-falls, Sorted}
+use Rattle.comparison.specs.Sizes.{nodePlaces}
 use Rattle.comparison.specs.Blocks.{Members, In, AllIn, Meets, Unsplit, Split}
 use Rattle.comparison.specs.Refinement.{Parted}
 use Rattle.comparison.specs.Tables.{OfNodes}
@@ -27,21 +29,21 @@ or-right true b t = tt
 or-right false b t = t
 
 -- what is left becomes less
-pub left-falls : (left left′ : ℕ → Bool) (u : ℕ) → Less left u left′ → 1 ≤ u → u ≤ 128 → T (left u) → tally 128 left′ < tally 128 left
-left-falls left left′ u less lo hi t = omega (arith, less-falls left left′ u less lo hi t, tally-number 128 left, tally-number 128 left′)
+pub left-falls : (left left′ : ℕ → Bool) (u : ℕ) → Less left u left′ → 1 ≤ u → u ≤ membersMost → T (left u) → tally membersMost left′ < tally membersMost left
+left-falls left left′ u less lo hi t = omega (arith, less-falls left left′ u less lo hi t, tally-number membersMost left, tally-number membersMost left′)
 
 -- ---- the nodes of a row marked: those that are not left have the mark
 pub record Marking (row : ℕ → Bool) (e : ℕ) (before now : List ℕ) (left : ℕ → Bool) : Type 0 where
-  pub size : length now ≡ 256
+  pub size : length now ≡ nodePlaces
   pub fewer : (s : ℕ) → T (left s) → T (row s)
   pub here : (s : ℕ) → T (row s) → T (left s) ⊎ (getD now s 0 ≡ e)
   pub others : (s : ℕ) → (T (row s) → ⊥) → getD now s 0 ≡ getD before s 0
 
 module _ (row : ℕ → Bool) (e : ℕ) (before : List ℕ) where
-  pub marking-none : length before ≡ 256 → Marking row e before before row
+  pub marking-none : length before ≡ nodePlaces → Marking row e before before row
   marking-none size = record { size = size; fewer = λ s t. t; here = λ s t. inl t; others = λ s n. refl }
 
-  pub marking-next : (now now′ : List ℕ) (left left′ : ℕ → Bool) (u : ℕ) → Marking row e before now left → T (left u) → u < 256 → Less left u left′ → now′ ≡ set now u e
+  pub marking-next : (now now′ : List ℕ) (left left′ : ℕ → Bool) (u : ℕ) → Marking row e before now left → T (left u) → u < nodePlaces → Less left u left′ → now′ ≡ set now u e
       → Marking row e before now′ left′
   marking-next now now′ left left′ u m t h less q = record {
     size = rw (q, length-set now u e) (m .size);
@@ -119,7 +121,7 @@ sorted-leading q look left out g none s =
 -- ---- what is told of a block
 
 -- a row from which one is taken
-pub one-only : (p left : ℕ → Bool) (u : ℕ) → ((s : ℕ) → T (left s) → (1 ≤ s) × (s ≤ 128)) → Less p u left → each 128 (λ s. not (left s)) ≡ true → (s : ℕ) → T (p s) → s ≡ u
+pub one-only : (p left : ℕ → Bool) (u : ℕ) → ((s : ℕ) → T (left s) → (1 ≤ s) × (s ≤ membersMost)) → Less p u left → each membersMost (λ s. not (left s)) ≡ true → (s : ℕ) → T (p s) → s ≡ u
 one-only p left u inside less none s t = ⊎-elim (λ i. i) (λ l. absurd (none-passes left inside none s l)) (less-or p left u less s t)
 
 module _ (M₁ M₂ : List ℕ) (m₁ m₂ : Members) (c : ℕ) (row₁ row₂ : ℕ → Bool) (e₁ : (s : ℕ) → row₁ s ≡ m₁ c s) (e₂ : (t : ℕ) → row₂ t ≡ m₂ c t) where

@@ -28,3 +28,6 @@ pub const PAIRS: usize = POSITIONS * format::NODES;
 
 // The space in which a path call labels the lines above the asked one, a row a line: its words.
 pub const LINES_WORDS: usize = ROW_WORDS * format::LINES;
+
+// A table with a place for each number of a node.
+pub const NODE_PLACES: usize = 256;

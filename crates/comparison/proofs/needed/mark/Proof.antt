@@ -4,6 +4,7 @@ use Prim.Native.Nat.{ℕ, _-_, _≤_}
 use native.Mathlib.Omega.{arith}
 use mathlib.Core.List.{List}
 use lib.ListN.{length}
+use Rattle.comparison.specs.Sizes.{linePlaces}
 use Rattle.comparison.specs.Lines.{Entry, Downward, HoldsLines}
 use Rattle.comparison.specs.Needed.{AllStand, Closed}
 use Rattle.comparison.proofs.NeededLines.{length-marks, closed-none, closed-skipped, closed-line}
@@ -13,7 +14,7 @@ use Rattle.comparison.proofs.needed.mark.Tie as tie
 
 abbrev Inv-loop : tie.InvT-loop
 Inv-loop words j same needed₀ i₀ needed i =
-    (i ≤ j) × (length needed ≡ 1024)
+    (i ≤ j) × (length needed ≡ linePlaces)
     × ((a : ℕ) (ls : List Entry) → Downward a ls → HoldsLines words ls → j ≤ length ls → AllStand ls (length ls) same → Closed ls same i j needed)
 
 abbrev μ-loop : tie.MeasureT-loop

@@ -4,6 +4,7 @@ use Prim.Native.Nat.{_≤_}
 use native.Mathlib.Omega.{arith}
 use mathlib.Core.List.{[]}
 use lib.ListN.{length}
+use Rattle.comparison.specs.Sizes.{linePlaces}
 use Rattle.comparison.specs.Needed.{AllStand}
 use Rattle.comparison.proofs.Lines.{padded}
 use Rattle.comparison.proofs.NeededLines.{shortened}
@@ -28,7 +29,7 @@ mark-requires c κs =
     let low = st .low in
     let high = st .high in
     let e = c .before .before .get .ensures in
-    (omega arith, omega arith, got .ensures .0, refl, λ k. padded [] 1024 k (omega arith))
+    (omega arith, omega arith, got .ensures .0, refl, λ k. padded [] linePlaces k (omega arith))
 
 copy-needed-requires : tie.Need-copy-needed-requires
 copy-needed-requires c κs =

@@ -1,5 +1,6 @@
 -- `by_nexts` meets its contract. The invariant: no signal splits a block. The measure is the blocks that may still come.
 use Prim.Native.Nat.{_-_}
+use Rattle.truth.specs.Passed.{nodesMost}
 use Rattle.truth.specs.Targets.{TailOf}
 use Rattle.comparison.specs.Tables.{state}
 use Rattle.comparison.specs.Stages.{Signalled}
@@ -12,7 +13,7 @@ Inv-loop m1 m2 first₀ second₀ line₀ words₀ tail1 tail2 so-far₀ first s
     Signalled m1 m2 (state first second line words so-far) × TailOf m1 tail1 × TailOf m2 tail2
 
 abbrev μ-loop : tie.MeasureT-loop
-μ-loop m1 m2 first₀ second₀ line₀ words₀ tail1 tail2 so-far₀ first second line words so-far = 128 - so-far .count
+μ-loop m1 m2 first₀ second₀ line₀ words₀ tail1 tail2 so-far₀ first second line words so-far = nodesMost - so-far .count
 
 loop-holds : tie.Need-loop-holds Inv-loop μ-loop
 loop-holds c = c .before .before .pre

@@ -3,6 +3,7 @@
 use Prim.Native.Nat.{ℕ, _-_, _≤_}
 use native.Mathlib.Omega.{arith}
 use mathlib.Core.List.{List, []}
+use Rattle.truth.specs.Passed.{nodesMost}
 use Rattle.truth.specs.Rows.{rowHas}
 use Rattle.comparison.specs.Tables.{State, state, Room}
 use Rattle.comparison.specs.Stages.{Starts}
@@ -26,7 +27,7 @@ entry c = state (c .args .first .now) (c .args .second .now) (c .args .line .now
 abbrev present : tie.At-loop Inv-loop μ-loop → State
 present c = state (c .loop .first) (c .loop .second) (c .loop .line) (c .loop .words) (c .loop .so-far)
 
-few : (c : tie.Start Inv-loop μ-loop) → c .args .stand .count ≤ 128
+few : (c : tie.Start Inv-loop μ-loop) → c .args .stand .count ≤ nodesMost
 few c = let w = c .pre .starts in blocks-fit (c .pre .M₁) (c .pre .M₂) (w .spare) (entry c) (w .ready .staged)
 
 room : (c : tie.In-loop Inv-loop μ-loop) → Room (present (c .before)) (c .before .loop .b)

@@ -6,9 +6,11 @@ use mathlib.Core.Logic.{_≢_}
 use Prim.Native.Nat.{_+_, _-_, _*_, _≤_}
 use native.Mathlib.Omega.{arith}
 use lib.ListN.{length}
+use Rattle.truth.specs.Passed.{nodesMost, signalsMost, linesWritten}
 use Rattle.truth.specs.Rows.{rowHas, rowsHas}
 use Rattle.truth.specs.Targets.{TailOf}
 use Rattle.truth.proofs.tables.TableLaws.{loaded}
+use Rattle.comparison.specs.Sizes.{blockPlaces, nodePlaces}
 use Rattle.comparison.specs.Tables.{State, state, written, firstOf, secondOf, Room}
 use Rattle.comparison.specs.Signatures.{TellsMark}
 use Rattle.comparison.proofs.StagedSplits.{blocks-fit, lines-fit}
@@ -18,12 +20,12 @@ use Rattle.comparison.proofs.refine.turn.Tie as tie
 
 abbrev Inv-loop : tie.InvT-loop
 Inv-loop m1 m2 first₀ second₀ line₀ words₀ tail1 tail2 mark1₀ mark2₀ all₀ so-far₀ c₀ first second line words mark1 mark2 all so-far c =
-    TailOf m1 tail1 × TailOf m2 tail2 × (length mark1 ≡ 256) × (length mark2 ≡ 256)
+    TailOf m1 tail1 × TailOf m2 tail2 × (length mark1 ≡ nodePlaces) × (length mark2 ≡ nodePlaces)
     × Turning m1 m2 (state first₀ second₀ line₀ words₀ so-far₀) (state first second line words so-far) mark1 mark2 (rowHas all) c
 
 abbrev μ-loop : tie.MeasureT-loop
 μ-loop m1 m2 first₀ second₀ line₀ words₀ tail1 tail2 mark1₀ mark2₀ all₀ so-far₀ c₀ first second line words mark1 mark2 all so-far c =
-    256 * (128 - so-far .count) + (128 - c)
+    blockPlaces * (nodesMost - so-far .count) + (nodesMost - c)
 
 -- the tables as they come, and at the loop's head
 abbrev entry : tie.Start Inv-loop μ-loop → State
@@ -35,10 +37,10 @@ present c = state (c .loop .first) (c .loop .second) (c .loop .line) (c .loop .w
 abbrev start : tie.At-loop Inv-loop μ-loop → tie.Start Inv-loop μ-loop
 start c = c .before .before .before .before .before .before .before .before
 
-fits : (c : tie.Start Inv-loop μ-loop) → c .args .stand .count ≤ 128
+fits : (c : tie.Start Inv-loop μ-loop) → c .args .stand .count ≤ nodesMost
 fits c = blocks-fit (c .args .m1 .now) (c .args .m2 .now) 5 (entry c) (c .pre .0)
 
-few : (c : tie.At-loop Inv-loop μ-loop) → (c .loop .so-far .count ≤ 128) × (c .loop .so-far .lines + 5 ≤ 912)
+few : (c : tie.At-loop Inv-loop μ-loop) → (c .loop .so-far .count ≤ nodesMost) × (c .loop .so-far .lines + 5 ≤ linesWritten signalsMost nodesMost)
 few c =
     let a = start c .args in
     (blocks-fit (a .m1 .now) (a .m2 .now) 5 (present c) (c .loop .inv .4 .staged), lines-fit (a .m1 .now) (a .m2 .now) 5 (present c) (c .loop .inv .4 .staged))
@@ -53,7 +55,7 @@ tells c =
     c .splitter .ensures (rowsHas (at .first)) (rowsHas (at .second)) (at .c)
     (λ s. loaded (at .first) (l .result) (at .c) (at .c) s (l .ensures) refl) (λ s. loaded (at .second) (k .result) (at .c) (at .c) s (k .ensures) refl)
 
-mark : (c : tie.After-splitter Inv-loop μ-loop) → c .splitter .result ≢ 0 → (1 ≤ c .splitter .result) × (c .splitter .result ≤ 128)
+mark : (c : tie.After-splitter Inv-loop μ-loop) → c .splitter .result ≢ 0 → (1 ≤ c .splitter .result) × (c .splitter .result ≤ nodesMost)
 mark c n =
     let at = c .before .before .before .before .before .before .before .before .before in
     let s = start at in

@@ -3,6 +3,7 @@ use borrow.Author.Needs.{needs}
 use mathlib.Core.Path.{sym, _∙_}
 use mathlib.Core.Bool.{not}
 use lib.Dec.{T}
+use Rattle.truth.specs.Sizes.{membersMost}
 use Rattle.truth.specs.Rows.{rowHas, tally, leadsInto}
 use Rattle.truth.proofs.rows.RowWalks.{none-left, one-left, one-within, Sorted, sorted-none, sorted-yes, sorted-no}
 use Rattle.comparison.proofs.Surveys.{left-falls, sorted-leading}
@@ -13,7 +14,7 @@ abbrev Inv-loop : tie.InvT-loop
 Inv-loop m into tail out₀ left₀ out left = Sorted (λ s. T (not (leadsInto m (rowHas into) s))) (rowHas left₀) (rowHas left) (rowHas out)
 
 abbrev μ-loop : tie.MeasureT-loop
-μ-loop m into tail out₀ left₀ out left = tally 128 (rowHas left)
+μ-loop m into tail out₀ left₀ out left = tally membersMost (rowHas left)
 
 empty-requires : tie.Need-empty-requires Inv-loop μ-loop
 empty-requires c κs = search needs

@@ -1,6 +1,7 @@
 -- `unlike` meets its contract. The invariant: the nodes that are not left have the signature l. The measure is how many are left.
 use borrow.Author.Needs.{needs}
 use mathlib.Core.Path.{sym, _∙_}
+use Rattle.truth.specs.Sizes.{membersMost}
 use Rattle.truth.specs.Rows.{rowHas, tally}
 use Rattle.truth.proofs.rows.RowWalks.{none-left, one-left, one-within}
 use Rattle.comparison.specs.Signatures.{MarksIn}
@@ -12,7 +13,7 @@ abbrev Inv-loop : tie.InvT-loop
 Inv-loop m mark all l tail left₀ left = Liked m mark (rowHas left₀) (rowHas l) (rowHas left)
 
 abbrev μ-loop : tie.MeasureT-loop
-μ-loop m mark all l tail left₀ left = tally 128 (rowHas left)
+μ-loop m mark all l tail left₀ left = tally membersMost (rowHas left)
 
 loop-holds : tie.Need-loop-holds Inv-loop μ-loop
 loop-holds c = liked-none _ _ _ _
