@@ -22,7 +22,7 @@ use Rattle.comparison.proofs.FinerBlocks.{unsplit-as, split-as, finer-n
 use Rattle.comparison.proofs.StagedSplits.{blocks-fit, room, ready-again}
 use Rattle.comparison.proofs.Splitters.{ready-written}
 use Rattle.comparison.proofs.MarkedBlocks.{marks-next, marks-high}
-use Rattle.comparison.proofs.Surveys.{or-right, marked-split}
+use Rattle.comparison.proofs.MarkedNodes.{or-right, marked-split}
 
 four : 4 ≤ 4
 four = omega arith

@@ -43,7 +43,8 @@ loop-less c = search needs
 
 loop-again : tie.Need-loop-again Inv-loop μ-loop
 loop-again c =
-    let at = c .before .before .before .before .before .before .loop in
+    let after-line-at : tie.After-line-at Inv-loop μ-loop = search in
+    let at = after-line-at .before .before .loop in
     let e : at .i + 1 - 1 ≡ at .i = omega arith in
     let got = c .merge-line .ensures in (
       search needs,
@@ -52,7 +53,7 @@ loop-again c =
       got .2,
       λ a ls down holds inside.
           let here : at .i + 1 ≤ length ls = omega arith in
-          got .3 a ls down here (c .before .before .before .before .line-at .ensures ls holds here) (rw e (at .inv .4 a ls down holds inside)),
+          got .3 a ls down here (after-line-at .line-at .ensures ls holds here) (rw e (at .inv .4 a ls down holds inside)),
     )
 
 returns : tie.Need-returns Inv-loop μ-loop

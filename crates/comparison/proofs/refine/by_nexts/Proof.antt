@@ -19,12 +19,12 @@ loop-holds : tie.Need-loop-holds Inv-loop μ-loop
 loop-holds c = c .before .before .pre
 
 turn-requires : tie.Need-turn-requires Inv-loop μ-loop
-turn-requires c κs = let inv = c .before .before .before .before .loop .inv in (inv .0 .staged, inv .1, inv .2)
+turn-requires c κs = let at-loop : tie.At-loop Inv-loop μ-loop = search in let inv = at-loop .loop .inv in (inv .0 .staged, inv .1, inv .2)
 
 returns : tie.Need-returns Inv-loop μ-loop
 returns c =
     let t = c .before .before .turn in
-    let at = c .before .before .before .before .before .before .before in
+    let at : tie.At-loop Inv-loop μ-loop = search in
     let l = t .last in
     settled-end _ _ (state (at .loop .first) (at .loop .second) (at .loop .line) (at .loop .words) (at .loop .so-far))
     (state (l .1 .1 .0) (l .1 .1 .1 .0) (l .1 .1 .1 .1 .0) (l .1 .1 .1 .1 .1 .0) (t .result)) (t .ensures) (at .loop .inv .0) (c .if1 .taken)
@@ -32,7 +32,7 @@ returns c =
 loop-less : tie.Need-loop-less Inv-loop μ-loop
 loop-less c =
     let t = c .before .before .turn in
-    let at = c .before .before .before .before .before .before .before in
+    let at : tie.At-loop Inv-loop μ-loop = search in
     let l = t .last in
     turns-fewer _ _ (state (at .loop .first) (at .loop .second) (at .loop .line) (at .loop .words) (at .loop .so-far))
     (state (l .1 .1 .0) (l .1 .1 .1 .0) (l .1 .1 .1 .1 .0) (l .1 .1 .1 .1 .1 .0) (t .result)) (t .ensures) (c .if1 .left)
@@ -40,7 +40,7 @@ loop-less c =
 loop-again : tie.Need-loop-again Inv-loop μ-loop
 loop-again c =
     let t = c .before .before .turn in
-    let at = c .before .before .before .before .before .before .before in
+    let at : tie.At-loop Inv-loop μ-loop = search in
     let l = t .last in (
       signalled-on _ _ (state (at .loop .first) (at .loop .second) (at .loop .line) (at .loop .words) (at .loop .so-far))
           (state (l .1 .1 .0) (l .1 .1 .1 .0) (l .1 .1 .1 .1 .0) (l .1 .1 .1 .1 .1 .0) (t .result)) (t .ensures) (at .loop .inv .0),

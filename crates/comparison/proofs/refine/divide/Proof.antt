@@ -42,13 +42,13 @@ loop-holds : tie.Need-loop-holds Inv-loop μ-loop
 loop-holds c M₁ M₂ s = let a = c .args in dividing-none M₁ M₂ (entry c) (a .p) (rowHas (a .x1)) (rowHas (a .x2)) (a .c) s
 
 split-block-requires : tie.Need-split-block-requires Inv-loop μ-loop
-split-block-requires c κs = room (c .before .before .before .before)
+split-block-requires c κs = let in-loop : tie.In-loop Inv-loop μ-loop = search in room in-loop
 
 add-next-split : tie.Need-add-next-split Inv-loop μ-loop
-add-next-split c = omega (arith, few (c .before .before .before .before .before .before .before .before .before))
+add-next-split c = let at-start : tie.Start Inv-loop μ-loop = search in omega (arith, few at-start)
 
 next-split-requires : tie.Need-next-split-requires Inv-loop μ-loop
-next-split-requires c κs = omega (arith, few (c .before .before .before .before .before .before .before .before .before))
+next-split-requires c κs = let at-start : tie.Start Inv-loop μ-loop = search in omega (arith, few at-start)
 
 loop-less : tie.Need-loop-less Inv-loop μ-loop
 loop-less c = omega (arith, c .next-split .ensures [] [] .low)
@@ -56,7 +56,7 @@ loop-less c = omega (arith, c .next-split .ensures [] [] .low)
 loop-again : tie.Need-loop-again Inv-loop μ-loop
 loop-again c M₁ M₂ s =
     let split = c .before .before .before in
-    let turn = split .before .before .before .before .before in
+    let turn : tie.In-loop Inv-loop μ-loop = search in
     let start = turn .before .before in
     let a = start .args in
     let l = split .split-block .last in

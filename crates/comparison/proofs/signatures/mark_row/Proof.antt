@@ -5,7 +5,7 @@ use native.Mathlib.Omega.{arith}
 use Rattle.truth.specs.Sizes.{membersMost}
 use Rattle.truth.specs.Rows.{rowHas, tally}
 use Rattle.truth.proofs.rows.RowWalks.{none-left, one-left, one-within}
-use Rattle.comparison.proofs.Surveys.{left-falls, Marking, marking-none, marking-next, marking-end}
+use Rattle.comparison.proofs.MarkedNodes.{left-falls, Marking, marking-none, marking-next, marking-end}
 use Rattle.comparison.proofs.signatures.mark_row.Statement.{statement}
 use Rattle.comparison.proofs.signatures.mark_row.Tie as tie
 

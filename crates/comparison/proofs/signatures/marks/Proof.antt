@@ -8,7 +8,7 @@ use Rattle.truth.specs.Rows.{rowHas, rowsHas}
 use Rattle.truth.proofs.tables.TableLaws.{loaded}
 use Rattle.comparison.specs.Sizes.{nodePlaces}
 use Rattle.comparison.specs.Signatures.{BlockMarks}
-use Rattle.comparison.proofs.Surveys.{marked-none, marked-more}
+use Rattle.comparison.proofs.MarkedNodes.{marked-none, marked-more}
 use Rattle.comparison.proofs.signatures.marks.Statement.{statement}
 use Rattle.comparison.proofs.signatures.marks.Tie as tie
 
@@ -38,8 +38,9 @@ loop-less c = search needs
 
 loop-again : tie.Need-loop-again Inv-loop μ-loop
 loop-again c =
-    let a = c .before .before .before .before .before .args in
-    let at = c .before .before .before .before .loop in
+    let at-loop : tie.At-loop Inv-loop μ-loop = search in
+    let a = at-loop .before .args in
+    let at = at-loop .loop in
     let l = c .before .before .load in (
       c .mark-row .ensures .size,
       omega arith,
