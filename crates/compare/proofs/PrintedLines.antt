@@ -6,7 +6,7 @@ use Prim.Native.Nat.{ℕ, _+_, _%_, _≤_}
 use native.Mathlib.Omega.{arith}
 use native.Mathlib.Decide.{decLe, ℕ-discrete}
 use mathlib.Core.List.{List, [], _∷_, _++_}
-use mathlib.Core.Bool.{Bool, true, false}
+use mathlib.Core.Bool.{true, false}
 use lib.ListN.{length, take}
 use Rattle.truth.specs.Passed.{M1, M2, Refusal, none as noRefusal, machineQuestions, machineRefusal, nodes, signals, word}
 use Rattle.truth.proofs.Passed.{first-has, signals-sized, machine-cases}
@@ -16,6 +16,7 @@ use Rattle.text.proofs.HeldLines.{held-text}
 use Rattle.input.specs.Bytes.{readable, wordsOf, bytesOf}
 use Rattle.input.specs.Cut.{firstSheet, secondSheet}
 use Rattle.input.specs.Lines.{refusedLine}
+use Rattle.input.proofs.Cuts.{by-reply}
 use Rattle.input.proofs.JoinedSheets.{joined-readable, joined-first, joined-second}
 use Rattle.input.proofs.WorkedInput.{input-cases}
 use Rattle.comparison.specs.Comparison as Comparison
@@ -24,7 +25,7 @@ use Rattle.comparison.specs.declared.compare.Answer.{Answer}
 use Rattle.comparison.specs.declared.compare.Answer.the-variants.{Refused, Equal, Unequal}
 use Rattle.comparison.proofs.CompareTable.{by-first, by-second, by-last, by-signals, by-nodes, by-none, compared, refuses-nothing}
 use Rattle.comparison.proofs.MarkedMachines as Machines
-use Rattle.compare.specs.Program.{lineBytes, refusal, Compared, Answered, Printed}
+use Rattle.compare.specs.Program.{lineBytes, refusal, Compared, Printed}
 
 -- ---- question 22
 
@@ -123,27 +124,20 @@ module _ (bytes : List ℕ) where
     unfolding lineBytes
     which-line = record {
       unreadable = λ e. said ∙ ap lineBytes (p .answered .refused e);
-      refused = λ ok some. said ∙ ap lineBytes (refused-answer first second (p .answer) (p .answered .compared ok) some);
-      equal = λ ok none same. said ∙ ap lineBytes (equal-answer first second none (p .answer) (p .answered .compared ok) same);
-      unequal = λ ok none other. said ∙ ap lineBytes (unequal-answer first second none (p .answer) (p .answered .compared ok) other);
+      refused = λ ok some. said ∙ ap lineBytes (refused-answer first second (p .answer) (p .answered .answered ok) some);
+      equal = λ ok none same. said ∙ ap lineBytes (equal-answer first second none (p .answer) (p .answered .answered ok) same);
+      unequal = λ ok none other. said ∙ ap lineBytes (unequal-answer first second none (p .answer) (p .answered .answered ok) other);
     }
 
-    -- an answer "equal" came from readable bytes
-    equal-taken : p .answer ≡ Equal → (taken : Bool) → readable 20000 (length bytes) ≡ taken → readable 20000 (length bytes) ≡ true
-    equal-taken e true ok = ok
-    equal-taken e false other =
-        let r = p .answered .refused other in
-        let z : _≡_ {A = ℕ} 0 1 = cc in
-        absurd (omega arith)
-
-    says-equal : p .answer ≡ Equal → EqualSheets
+    equal-sheets : readable 20000 (length bytes) ≡ true → Compared first second (p .answer) → p .answer ≡ Equal → EqualSheets
     unfolding refusal refusalOf noRefusal
-    says-equal e =
-        let ok = equal-taken e (readable 20000 (length bytes)) refl in
-        let c = p .answered .compared ok in
+    equal-sheets ok c e =
         let none : 0 ≡ refusal first second .number = ap (λ (r : Refusal). r .number) (rw e at (c .asked)) in
         let k = compared first second 5505 none in
         record { taken = ok; one = k .first; two = k .second; same = k .same; few = k .few; equal = c .equal e }
+
+    says-equal : p .answer ≡ Equal → EqualSheets
+    says-equal e = by-reply (p .answered) (λ other r. let z : _≡_ {A = ℕ} 0 1 = cc in absurd (omega arith)) (λ ok c. equal-sheets ok c e)
 
     equal-said : EqualSheets → text line ≡ lineBytes Equal
     unfolding refusal
@@ -163,7 +157,7 @@ pub files-compared : (first second : List ℕ) → length first % 2 ≡ 0 → le
     → (line : Line) → Printed (first ++ second) line
     → (answer : Answer) × Compared (wordsOf first) (wordsOf second) answer × (text line ≡ lineBytes answer)
 files-compared first second even₁ even₂ ok₁ ok₂ line p =
-    let c = p .answered .compared (joined-readable first second even₁ even₂ ok₁ ok₂) in
+    let c = p .answered .answered (joined-readable first second even₁ even₂ ok₁ ok₂) in
     let one = joined-first first second even₁ even₂ ok₁ ok₂ in
     let two = joined-second first second even₁ even₂ ok₁ ok₂ in
     (p .answer, rw (one, two) at c, said (first ++ second) line p)

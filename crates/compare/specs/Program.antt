@@ -3,13 +3,10 @@
 use mathlib.Core.Path.{_≡_}
 use Prim.Native.Nat.{ℕ, _≤_}
 use mathlib.Core.List.{List, [], _∷_}
-use mathlib.Core.Bool.{true, false}
-use lib.ListN.{length}
 use Rattle.truth.specs.Passed.{Refusal, firstNo}
 use Rattle.text.specs.Lines.{Holds}
 use Rattle.text.specs.declared.line.Line.{Line}
-use Rattle.input.specs.Bytes.{readable, wordsOf}
-use Rattle.input.specs.Cut.{firstSheet, secondSheet}
+use Rattle.input.specs.Replies.{Reply}
 use Rattle.input.specs.Lines.{refusedLine}
 use Rattle.comparison.specs.Comparison as Comparison
 use Rattle.comparison.specs.Answers.{comparisonQuestions, refusalOf}
@@ -37,9 +34,8 @@ pub record Compared (M₁ M₂ : List ℕ) (answer : Answer) : Type 0 where
   pub unequal : answer ≡ Unequal → Comparison.Equal M₁ M₂ → ⊥
 
 -- the answer to the bytes of standard input: "`refused 0 0` for an odd byte count or more than 20,000 bytes", else that to the two sheets
-pub record Answered (bytes : List ℕ) (answer : Answer) : Type 0 where
-  pub refused : readable 20000 (length bytes) ≡ false → answer ≡ Refused 0 0
-  pub compared : readable 20000 (length bytes) ≡ true → Compared (firstSheet (wordsOf bytes)) (secondSheet (wordsOf bytes)) answer
+abbrev pub Answered : List ℕ → Answer → Type 0
+Answered bytes answer = Reply 20000 bytes (answer ≡ Refused 0 0) (λ (M₁ M₂ : List ℕ). Compared M₁ M₂ answer)
 
 -- the line that is printed: that of the answer, and nothing else
 pub record Printed (bytes : List ℕ) (line : Line) : Type 0 where

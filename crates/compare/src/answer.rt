@@ -4,7 +4,6 @@ ghost use Rattle.compare.specs.Program.{lineBytes, Compared, Answered, P
 use comparison::compare;
 use comparison::compare::Answer;
 use input::cut;
-use input::cut::Cut;
 use input::line;
 use text::line::Line;
 
@@ -22,16 +21,13 @@ fn answer_to(input: &[u8]) -> Answer
 {
     let mut words = [0u16; 10000];
     let cut = cut::sheets_of(input, &mut words);
-    match cut {
-        Cut::Unreadable => Answer::Refused {
+    if cut.refused {
+        return Answer::Refused {
             question: 0,
             sheet: 0,
-        },
-        Cut::Sheets { end, count } => {
-            let both = &words[..count];
-            compare_sheets(&both[..end], &both[end..])
-        }
+        };
     }
+    compare_sheets(cut::first(&words, cut), cut::second(&words, cut))
 }
 
 // The line of an answer.

@@ -14,6 +14,8 @@ fn main() {
     let mut input = [0u8; 20001];
     let n = io::read_full(STDIN_FILENO, &mut input);
     let mut rule = [0u16; 5505];
-    let said = answer::explain_bytes(&input[..n], &mut rule);
-    printing::print(said, &rule);
+    let said = answer::answer_to(&input[..n], &mut rule);
+    let answer = said.answer;
+    let verdict = said.verdict;
+    printing::print(answer, verdict, &rule);
 }

@@ -56,53 +56,40 @@ fn numbers(page: &mut [u8; 4096], c: Cursor, set: u16, pair: bool) -> Cursor
     c
 }
 
-// "signals 1, 2 and 3 are on".
-fn several(page: &mut [u8; 4096], c: Cursor, set: u16, on: bool) -> Cursor
+// The numbers of a set of signals with the words around them; `pair` as above.
+fn listed(
+    page: &mut [u8; 4096],
+    c: Cursor,
+    set: u16,
+    pair: bool,
+    head: &[u8],
+    tail: &[u8],
+) -> Cursor
     ensures { λ r. ⌜ Follows (now (page .entry)) c (now (page .exit)) r ⌝ }
 {
-    let begun = page::put(page, c, b"signals ");
-    let said = numbers(page, begun, set, false);
-    if on {
-        return page::put(page, said, b" are on");
-    }
-    page::put(page, said, b" are off")
+    let begun = page::put(page, c, head);
+    let said = numbers(page, begun, set, pair);
+    page::put(page, said, tail)
 }
 
-// "neither signal 1 nor signal 2 is on".
-fn neither(page: &mut [u8; 4096], c: Cursor, set: u16) -> Cursor
-    ensures { λ r. ⌜ Follows (now (page .entry)) c (now (page .exit)) r ⌝ }
-{
-    let begun = page::put(page, c, b"neither signal ");
-    let said = numbers(page, begun, set, true);
-    page::put(page, said, b" is on")
-}
-
-// "signal 1 is on".
-fn single(page: &mut [u8; 4096], c: Cursor, set: u16, on: bool) -> Cursor
-    ensures { λ r. ⌜ Follows (now (page .entry)) c (now (page .exit)) r ⌝ }
-{
-    let begun = page::put(page, c, b"signal ");
-    let said = numbers(page, begun, set, false);
-    if on {
-        return page::put(page, said, b" is on");
-    }
-    page::put(page, said, b" is off")
-}
-
-// That the signals of a set are on, or off.
+// That the signals of a set are on, or off: "signal 1 is on", "signals 1, 2 and 3 are off", "neither signal 1 nor signal 2 is on".
 fn signals(page: &mut [u8; 4096], c: Cursor, set: u16, on: bool) -> Cursor
     ensures { λ r. ⌜ Follows (now (page .entry)) c (now (page .exit)) r ⌝ }
 {
     let count = u16::count_ones(set);
     if count == 1 {
-        return single(page, c, set, on);
+        if on {
+            return listed(page, c, set, false, b"signal ", b" is on");
+        }
+        return listed(page, c, set, false, b"signal ", b" is off");
+    }
+    if on {
+        return listed(page, c, set, false, b"signals ", b" are on");
     }
     if count == 2 {
-        if !on {
-            return neither(page, c, set);
-        }
+        return listed(page, c, set, true, b"neither signal ", b" is on");
     }
-    several(page, c, set, on)
+    listed(page, c, set, false, b"signals ", b" are off")
 }
 
 // ---- places

@@ -3,8 +3,8 @@
 mod answer; // answer.rt: what is answered to the input
 mod print; // print.rt: what is printed
 
-use answer::Answer;
 use libc::STDIN_FILENO;
+use truth::labelling::Labelled;
 
 // Reads one byte more than is taken, so that a longer input is noticed. The rows have space for 1,024 lines.
 fn main() {
@@ -12,17 +12,16 @@ fn main() {
     let n = io::read_full(STDIN_FILENO, &mut input);
     let mut rows = [0u64; 2048];
     let answer = answer::answer_to(&input[..n], &mut rows);
-    match answer {
-        Answer::Refused { question, sheet } => say::refusal(question, sheet),
-        Answer::Done {
-            nodes,
-            lines,
+    let labelled = answer.labelled;
+    match labelled {
+        Labelled::Refused { question, sheet } => say::refusal(question, sheet),
+        Labelled::Done {
             kept,
             count,
             percent,
         } => {
-            print::rows(&rows, nodes, lines);
-            print::verdict(nodes, kept, count, percent);
+            print::rows(&rows, answer.nodes, answer.lines);
+            print::verdict(answer.nodes, kept, count, percent);
         }
     }
 }

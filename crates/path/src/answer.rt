@@ -1,7 +1,7 @@
 // What is answered to the input.
 ghost use Rattle.path.specs.Program.{Answered};
 use input::cut;
-use input::cut::Cut;
+use truth::path;
 use truth::path::Shown;
 
 // The answer to the bytes of standard input; the nodes and the states of the path's pairs go to the two lent lists.
@@ -10,14 +10,13 @@ pub fn answer_to(input: &[u8], line: u16, node: u16, nodes: &mut [u16], states: 
 {
     let mut words = [0u16; 14503];
     let cut = cut::sheets_of(input, &mut words);
-    match cut {
-        Cut::Unreadable => Shown::Refused {
+    if cut.refused {
+        return Shown::Refused {
             question: 0,
             sheet: 0,
-        },
-        Cut::Sheets { end, count } => {
-            let both = &words[..count];
-            truth::path::path_lists(&both[..end], &both[end..], line, node, nodes, states)
-        }
+        };
     }
+    let m = cut::first(&words, cut);
+    let r = cut::second(&words, cut);
+    path::path_lists(m, r, line, node, nodes, states)
 }

@@ -4,7 +4,7 @@ ghost use Rattle.sheets.specs.Answers.{Answered};
 ghost use Rattle.text.specs.Lines.{Holds};
 ghost use Rattle.sheet.specs.Program.{questions, CheckedBytes, CheckedText, Checked, checkLine, lineBytes};
 ghost use Rattle.sheet.specs.Program as Program;
-use input::bytes;
+use input::cut;
 use input::line;
 use sheets::checks;
 use sheets::checks::Check;
@@ -47,15 +47,15 @@ fn check_words(sort: Sort, words: &[u16]) -> Check
 fn check_bytes(sort: Sort, sheet: &[u8]) -> Check
     ensures { λ r. ⌜ CheckedBytes sort (now (sheet .entry)) r ⌝ }
 {
-    if !bytes::readable(sheet.len(), 29006) {
+    let mut words = [0u16; 14503];
+    let cut = cut::sheets_of(sheet, &mut words);
+    if cut.refused {
         return Check::Refused {
             question: 0,
             sheet: 0,
         };
     }
-    let mut words = [0u16; 14503];
-    let n = bytes::words_of(sheet, &mut words);
-    check_words(sort, &words[..n])
+    check_words(sort, cut::whole(&words, cut))
 }
 
 // The answer to a sheet's text.
