@@ -10,9 +10,10 @@ use Rattle.comparison.specs.Answers.{comparisonQuestions, refusalOf, Leaves, Co
 use Rattle.comparison.specs.declared.compare.Answer.{Answer}
 use Rattle.comparison.specs.declared.compare.Answer.the-variants.{Refused, Equal, Unequal}
 use Rattle.comparison.proofs.Outcome.{never-both}
+use Rattle.input.specs.Limits.{ruleWords}
 use Rattle.compare.specs.Program.{refusal, Compared}
 
-module _ (M₁ M₂ before after : List ℕ) (room : length before ≡ 5505) where
+module _ (M₁ M₂ before after : List ℕ) (room : length before ≡ ruleWords) where
   by-answer : (answer : Answer) → refusalOf answer ≡ refusal M₁ M₂ → Leaves M₁ M₂ before after answer → Compared M₁ M₂ answer
   unfolding Leaves
   by-answer (Refused q i) e l = record {

@@ -13,6 +13,7 @@ use Rattle.truth.proofs.Passed.{first-has, signals-sized, machine-cases}
 use Rattle.text.specs.Lines.{Holds}
 use Rattle.text.specs.declared.line.Line.{Line}
 use Rattle.text.proofs.HeldLines.{held-text}
+use Rattle.input.specs.Limits.{machinesBytes, ruleWords}
 use Rattle.input.specs.Bytes.{readable, wordsOf, bytesOf}
 use Rattle.input.specs.Cut.{firstSheet, secondSheet}
 use Rattle.input.specs.Lines.{refusedLine}
@@ -39,20 +40,20 @@ module _ (M₁ M₂ : List ℕ) where
   last-no : machineRefusal M₁ ≡ 0 → machineRefusal M₂ ≡ 0 → refusal M₁ M₂ .number ≡ 22 → ⊥
   unfolding refusal
   last-no ok₁ ok₂ e =
-      let last = by-last M₁ M₂ 5505 0 (sym ok₁) refl 0 (sym ok₂) refl in
+      let last = by-last M₁ M₂ ruleWords 0 (sym ok₁) refl 0 (sym ok₂) refl in
       by-cases (ℕ-discrete (signals M₁) (signals M₂))
       (λ same. by-cases (decLe (nodes M₁ + nodes M₂) 128)
-      (λ few. let most = signals-sized M₁ ok₁ .1 in omega (arith, last 0 (by-none M₁ M₂ 5505 same few (omega arith)) .0))
-      (λ many. omega (arith, last 21 (by-nodes M₁ M₂ 5505 same (omega arith)) .0)))
-      (λ other. omega (arith, last 20 (by-signals M₁ M₂ 5505 other) .0))
+      (λ few. let most = signals-sized M₁ ok₁ .1 in omega (arith, last 0 (by-none M₁ M₂ ruleWords same few (omega arith)) .0))
+      (λ many. omega (arith, last 21 (by-nodes M₁ M₂ ruleWords same (omega arith)) .0)))
+      (λ other. omega (arith, last 20 (by-signals M₁ M₂ ruleWords other) .0))
 
   pub never-22 : refusal M₁ M₂ .number ≡ 22 → ⊥
   unfolding refusal
   never-22 e =
       by-cases (ℕ-discrete (machineRefusal M₁) 0)
       (λ ok₁. by-cases (ℕ-discrete (machineRefusal M₂) 0) (λ ok₂. last-no ok₁ ok₂ e)
-      (λ n. let few = one-to-six M₂ n in omega (arith, by-second M₁ M₂ 5505 0 (sym ok₁) refl (machineRefusal M₂) refl n .0)))
-      (λ n. let few = one-to-six M₁ n in omega (arith, by-first M₁ M₂ 5505 (machineRefusal M₁) refl n .0))
+      (λ n. let few = one-to-six M₂ n in omega (arith, by-second M₁ M₂ ruleWords 0 (sym ok₁) refl (machineRefusal M₂) refl n .0)))
+      (λ n. let few = one-to-six M₁ n in omega (arith, by-first M₁ M₂ ruleWords (machineRefusal M₁) refl n .0))
 
 -- ---- which answer
 
@@ -99,17 +100,17 @@ module _ (bytes : List ℕ) where
 
   -- for every input one line
   pub record Lines (line : Line) : Type 0 where
-    pub unreadable : readable 20000 (length bytes) ≡ false → text line ≡ refusedLine 0 0
-    pub refused : readable 20000 (length bytes) ≡ true → 1 ≤ refusal first second .number
+    pub unreadable : readable machinesBytes (length bytes) ≡ false → text line ≡ refusedLine 0 0
+    pub refused : readable machinesBytes (length bytes) ≡ true → 1 ≤ refusal first second .number
         → text line ≡ refusedLine (refusal first second .number) (refusal first second .sheet)
-    pub equal : readable 20000 (length bytes) ≡ true → refusal first second .number ≡ 0 → Comparison.Equal first second
+    pub equal : readable machinesBytes (length bytes) ≡ true → refusal first second .number ≡ 0 → Comparison.Equal first second
         → text line ≡ lineBytes Equal
-    pub unequal : readable 20000 (length bytes) ≡ true → refusal first second .number ≡ 0 → (Comparison.Equal first second → ⊥)
+    pub unequal : readable machinesBytes (length bytes) ≡ true → refusal first second .number ≡ 0 → (Comparison.Equal first second → ⊥)
         → text line ≡ lineBytes Unequal
 
   -- what `equal` says of the input
   pub record EqualSheets : Type 0 where
-    pub taken : readable 20000 (length bytes) ≡ true
+    pub taken : readable machinesBytes (length bytes) ≡ true
     pub one : machineRefusal first ≡ 0
     pub two : machineRefusal second ≡ 0
     pub same : signals first ≡ signals second
@@ -129,11 +130,11 @@ module _ (bytes : List ℕ) where
       unequal = λ ok none other. said ∙ ap lineBytes (unequal-answer first second none (p .answer) (p .answered .answered ok) other);
     }
 
-    equal-sheets : readable 20000 (length bytes) ≡ true → Compared first second (p .answer) → p .answer ≡ Equal → EqualSheets
+    equal-sheets : readable machinesBytes (length bytes) ≡ true → Compared first second (p .answer) → p .answer ≡ Equal → EqualSheets
     unfolding refusal refusalOf noRefusal
     equal-sheets ok c e =
         let none : 0 ≡ refusal first second .number = ap (λ (r : Refusal). r .number) (rw e at (c .asked)) in
-        let k = compared first second 5505 none in
+        let k = compared first second ruleWords none in
         record { taken = ok; one = k .first; two = k .second; same = k .same; few = k .few; equal = c .equal e }
 
     says-equal : p .answer ≡ Equal → EqualSheets
@@ -144,7 +145,7 @@ module _ (bytes : List ℕ) where
     equal-said s =
         let most = signals-sized first (s .one) .1 in
         let few = s .few in
-        let none = refuses-nothing first second 5505 (record { first = s .one; second = s .two; same = s .same; few = s .few; enough = omega arith }) in
+        let none = refuses-nothing first second ruleWords (record { first = s .one; second = s .two; same = s .same; few = s .few; enough = omega arith }) in
         which-line .equal (s .taken) none (s .equal)
 
     pub equal-exactly : (text line ≡ lineBytes Equal) ↔ EqualSheets

@@ -6,6 +6,7 @@ use mathlib.Core.List.{List, [], _∷_}
 use Rattle.truth.specs.Passed.{Refusal, firstNo}
 use Rattle.text.specs.Lines.{Holds}
 use Rattle.text.specs.declared.line.Line.{Line}
+use Rattle.input.specs.Limits.{machinesBytes, ruleWords}
 use Rattle.input.specs.Replies.{Reply}
 use Rattle.input.specs.Lines.{refusedLine}
 use Rattle.comparison.specs.Comparison as Comparison
@@ -24,7 +25,7 @@ lineBytes Unequal = 117 ∷ 110 ∷ 101 ∷ 113 ∷ 117 ∷ 97 ∷ 108 ∷ 10 �
 -- 33 + 6 × (16 + 7 × 128), so that question 22 is never that one (theorem `never-22`)
 unfoldable pub refusal : List ℕ → List ℕ → Refusal
 unfolding firstNo comparisonQuestions
-refusal M₁ M₂ = firstNo (comparisonQuestions M₁ M₂ 5505)
+refusal M₁ M₂ = firstNo (comparisonQuestions M₁ M₂ ruleWords)
 
 -- the answer to two sheets: their refusal, or equal, or not
 pub record Compared (M₁ M₂ : List ℕ) (answer : Answer) : Type 0 where
@@ -35,7 +36,7 @@ pub record Compared (M₁ M₂ : List ℕ) (answer : Answer) : Type 0 where
 
 -- the answer to the bytes of standard input: "`refused 0 0` for an odd byte count or more than 20,000 bytes", else that to the two sheets
 abbrev pub Answered : List ℕ → Answer → Type 0
-Answered bytes answer = Reply 20000 bytes (answer ≡ Refused 0 0) (λ (M₁ M₂ : List ℕ). Compared M₁ M₂ answer)
+Answered bytes answer = Reply machinesBytes bytes (answer ≡ Refused 0 0) (λ (M₁ M₂ : List ℕ). Compared M₁ M₂ answer)
 
 -- the line that is printed: that of the answer, and nothing else
 pub record Printed (bytes : List ℕ) (line : Line) : Type 0 where

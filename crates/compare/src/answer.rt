@@ -4,6 +4,7 @@ ghost use Rattle.compare.specs.Program.{lineBytes, Compared, Answered, P
 use comparison::compare;
 use comparison::compare::Answer;
 use input::cut;
+use input::limits;
 use input::line;
 use text::line::Line;
 
@@ -11,7 +12,7 @@ use text::line::Line;
 fn compare_sheets(first: &[u16], second: &[u16]) -> Answer
     ensures { λ r. ⌜ Compared (now (first .entry)) (now (second .entry)) r ⌝ }
 {
-    let mut space = [0u16; 5505];
+    let mut space = [0u16; limits::RULE_WORDS];
     compare::compare(first, second, &mut space)
 }
 
@@ -19,7 +20,7 @@ fn compare_sheets(first: &[u16], second: &[u16]) -> Answer
 fn answer_to(input: &[u8]) -> Answer
     ensures { λ r. ⌜ Answered (now (input .entry)) r ⌝ }
 {
-    let mut words = [0u16; 10000];
+    let mut words = [0u16; limits::MACHINES_WORDS];
     let cut = cut::sheets_of(input, &mut words);
     if cut.refused {
         return Answer::Refused {

@@ -2,6 +2,7 @@
 use mathlib.Core.Path.{_≡_}
 use Prim.Native.Nat.{ℕ}
 use mathlib.Core.List.{List}
+use Rattle.input.specs.Limits.{machinesBytes}
 use Rattle.input.specs.Replies.{Reply}
 use Rattle.comparison.specs.Comparison.{Written}
 use Rattle.comparison.specs.Answers.{CompareAnswer}
@@ -17,4 +18,4 @@ pub record Explained (M₁ M₂ before after : List ℕ) (said : Explanation) : 
 -- what is said of bytes: refused by 0 where they are odd in number or too many, otherwise what is said of their two sheets
 abbrev pub Answered : List ℕ → List ℕ → List ℕ → Explanation → Type 0
 Answered bytes before after said =
-    Reply 20000 bytes ((said .answer ≡ Refused 0 0) × (after ≡ before)) (λ (M₁ M₂ : List ℕ). Explained M₁ M₂ before after said)
+    Reply machinesBytes bytes ((said .answer ≡ Refused 0 0) × (after ≡ before)) (λ (M₁ M₂ : List ℕ). Explained M₁ M₂ before after said)

@@ -8,6 +8,7 @@ use crate::verdict::Verdict;
 use comparison::compare;
 use comparison::compare::Answer;
 use input::cut;
+use input::limits;
 use sheets::rules;
 
 // The verdict is one only where the answer is unequal; otherwise its node is 0.
@@ -55,7 +56,7 @@ fn explain_sheets(first: &[u16], second: &[u16], space: &mut [u16]) -> Explanati
 pub fn answer_to(input: &[u8], space: &mut [u16]) -> Explanation
     ensures { λ r. ⌜ Answered (now (input .entry)) (now (space .entry)) (now (space .exit)) r ⌝ }
 {
-    let mut words = [0u16; 10000];
+    let mut words = [0u16; limits::MACHINES_WORDS];
     let cut = cut::sheets_of(input, &mut words);
     if cut.refused {
         return plain(Answer::Refused {

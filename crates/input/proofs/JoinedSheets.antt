@@ -14,6 +14,7 @@ use Rattle.sheets.specs.Machine.{nodes, signals, edges, q1, q2, machineRefusal}
 use Rattle.sheets.proofs.Tests.{passed, and-left, and-right}
 use Rattle.sheets.proofs.Search.{le-or-gt, within-at}
 use Rattle.sheets.proofs.Questions.{machine-answers}
+use Rattle.input.specs.Limits.{machinesBytes}
 use Rattle.input.specs.Bytes.{readable, wordOf, wordsOf}
 use Rattle.input.specs.Cut.{headerEnd, firstEnd, firstSheet, secondSheet}
 use Rattle.input.proofs.Cuts.{end-by-header}
@@ -96,14 +97,14 @@ module _ (M : List ℕ) (accepted : machineRefusal M ≡ 0) where
 -- two files of bytes, each of them an accepted machine sheet: joined they are readable, and cut into the two again
 module _ (first second : List ℕ) (even₁ : length first % 2 ≡ 0) (even₂ : length second % 2 ≡ 0)
     (ok₁ : machineRefusal (wordsOf first) ≡ 0) (ok₂ : machineRefusal (wordsOf second) ≡ 0) where
-  pub joined-readable : readable 20000 (length (first ++ second)) ≡ true
+  pub joined-readable : readable machinesBytes (length (first ++ second)) ≡ true
   unfolding readable
   joined-readable =
       let size = length-append first second in
-      let few : length (first ++ second) ≤ 20000 =
+      let few : length (first ++ second) ≤ machinesBytes =
       omega (arith, words-length first, words-length second, longest (wordsOf first) ok₁, longest (wordsOf second) ok₂) in
       let even : length (first ++ second) % 2 ≡ 0 = omega arith in
-      rw (le-leb (length (first ++ second)) 20000 few, eq-eqb (length (first ++ second) % 2) 0 even)
+      rw (le-leb (length (first ++ second)) machinesBytes few, eq-eqb (length (first ++ second) % 2) 0 even)
 
   pub joined-first : firstSheet (wordsOf (first ++ second)) ≡ wordsOf first
   joined-first =

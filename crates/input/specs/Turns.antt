@@ -8,6 +8,7 @@ use Rattle.text.specs.Texts.{Read, words, fault, readingOf}
 use Rattle.text.specs.Layout.{writtenOf, textLeft}
 use Rattle.text.specs.declared.write.Written.{Written}
 use Rattle.text.specs.declared.write.Written.the-variants as Written
+use Rattle.input.specs.Limits.{sheetsWords, sheetsBytes, textBytes}
 use Rattle.input.specs.Bytes.{wordsOf, bytesOf}
 use Rattle.input.specs.declared.turn.Turned.{Turned}
 use Rattle.input.specs.declared.turn.Turned.the-variants.{Done, Fault, Odd, Long, NoRoom}
@@ -32,7 +33,7 @@ ofRead (fault kind at) lent = refused (Fault kind at) lent
 -- a text of at most 200,000 bytes as bytes, with space for a whole sheet
 unfoldable pub toBytes : List ℕ → List ℕ → Turn
 toBytes text lent =
-    cond (ltb 200000 (length text)) (refused Long lent) (cond (ltb (length lent) 29006) (refused NoRoom lent) (ofRead (readingOf 14503 text) lent))
+    cond (ltb textBytes (length text)) (refused Long lent) (cond (ltb (length lent) sheetsBytes) (refused NoRoom lent) (ofRead (readingOf sheetsWords text) lent))
 
 unfoldable pub ofWritten : Written → Turned
 ofWritten (Written.Text count) = Done count
@@ -41,6 +42,6 @@ ofWritten Written.NoRoom = NoRoom
 -- an even number of bytes, at most a whole sheet, as text
 unfoldable pub toText : List ℕ → List ℕ → Turn
 toText sheet lent =
-    cond (ltb 29006 (length sheet)) (refused Long lent)
+    cond (ltb sheetsBytes (length sheet)) (refused Long lent)
     (cond (eqb (length sheet % 2) 1) (refused Odd lent)
     (record { answer = ofWritten (writtenOf (wordsOf sheet) lent); left = textLeft (wordsOf sheet) lent }))

@@ -6,6 +6,7 @@ use Rattle.sheets.specs.Machine.{nodes}
 use Rattle.sheets.specs.Rules.{lines}
 use Rattle.truth.specs.Answers.{LabelAnswer}
 use Rattle.truth.specs.declared.labelling.Labelled.the-variants.{Refused}
+use Rattle.input.specs.Limits.{sheetsBytes}
 use Rattle.input.specs.Replies.{Reply}
 use Rattle.label.specs.declared.answer.Answer.{Answer}
 
@@ -20,4 +21,4 @@ pub record LabelledSheets (M R before after : List ℕ) (answer : Answer) : Type
 -- words and the longest rule sheet 10,020, 29,006 bytes together; more bytes, or an odd number of them, are refused.
 abbrev pub Answered : List ℕ → List ℕ → List ℕ → Answer → Type 0
 Answered bytes before after answer =
-    Reply 29006 bytes ((answer .labelled ≡ Refused 0 0) × (after ≡ before)) (λ (M R : List ℕ). LabelledSheets M R before after answer)
+    Reply sheetsBytes bytes ((answer .labelled ≡ Refused 0 0) × (after ≡ before)) (λ (M R : List ℕ). LabelledSheets M R before after answer)

@@ -1,6 +1,7 @@
 // What is answered to the input.
 ghost use Rattle.label.specs.Program.{LabelledSheets, Answered};
 use input::cut;
+use input::limits;
 use sheets::machine;
 use sheets::rules;
 use truth::labelling;
@@ -28,7 +29,7 @@ fn label_sheets(m: &[u16], r: &[u16], rows: &mut [u64]) -> Answer
 pub fn answer_to(input: &[u8], rows: &mut [u64]) -> Answer
     ensures { λ a. ⌜ Answered (now (input .entry)) (now (rows .entry)) (now (rows .exit)) a ⌝ }
 {
-    let mut words = [0u16; 14503];
+    let mut words = [0u16; limits::SHEETS_WORDS];
     let cut = cut::sheets_of(input, &mut words);
     if cut.refused {
         return Answer {

@@ -3,12 +3,13 @@
 mod answer; // answer.rt: what is answered to the input
 mod print; // print.rt: what is printed
 
+use input::limits;
 use libc::STDIN_FILENO;
 use truth::labelling::Labelled;
 
 // Reads one byte more than is taken, so that a longer input is noticed. The rows have space for 1,024 lines.
 fn main() {
-    let mut input = [0u8; 29007];
+    let mut input = [0u8; limits::SHEETS_BYTES + 1];
     let n = io::read_full(STDIN_FILENO, &mut input);
     let mut rows = [0u64; 2048];
     let answer = answer::answer_to(&input[..n], &mut rows);

@@ -5,6 +5,7 @@ use mathlib.Core.List.{List}
 use Rattle.truth.specs.PathAnswers.{PathAnswer}
 use Rattle.truth.specs.declared.path.Shown.{Shown}
 use Rattle.truth.specs.declared.path.Shown.the-variants.{Refused}
+use Rattle.input.specs.Limits.{sheetsBytes}
 use Rattle.input.specs.Replies.{Reply}
 
 -- The answer to bytes, a machine sheet and after it a rule sheet, cut by the machine's header, for line j and node s: that of the path
@@ -12,5 +13,5 @@ use Rattle.input.specs.Replies.{Reply}
 -- number of them, are refused.
 abbrev pub Answered : List ℕ → ℕ → ℕ → List ℕ → List ℕ → List ℕ → List ℕ → Shown → Type 0
 Answered bytes j s nodesBefore statesBefore nodesAfter statesAfter answer =
-    Reply 29006 bytes ((answer ≡ Refused 0 0) × (nodesAfter ≡ nodesBefore) × (statesAfter ≡ statesBefore))
+    Reply sheetsBytes bytes ((answer ≡ Refused 0 0) × (nodesAfter ≡ nodesBefore) × (statesAfter ≡ statesBefore))
     (λ (M R : List ℕ). PathAnswer M R j s nodesBefore statesBefore nodesAfter statesAfter answer)

@@ -1,6 +1,7 @@
 // What is answered to the input.
 ghost use Rattle.path.specs.Program.{Answered};
 use input::cut;
+use input::limits;
 use truth::path;
 use truth::path::Shown;
 
@@ -8,7 +9,7 @@ use truth::path::Shown;
 pub fn answer_to(input: &[u8], line: u16, node: u16, nodes: &mut [u16], states: &mut [u16]) -> Shown
     ensures { λ a. ⌜ Answered (now (input .entry)) line node (now (nodes .entry)) (now (states .entry)) (now (nodes .exit)) (now (states .exit)) a ⌝ }
 {
-    let mut words = [0u16; 14503];
+    let mut words = [0u16; limits::SHEETS_WORDS];
     let cut = cut::sheets_of(input, &mut words);
     if cut.refused {
         return Shown::Refused {

@@ -15,6 +15,7 @@ use Rattle.sheets.specs.declared.checks.Check.{Check}
 use Rattle.sheets.specs.declared.checks.Check.the-variants.{Accepted, Refused}
 use Rattle.text.specs.declared.line.Line.{Line}
 use Rattle.text.proofs.HeldLines.{held-text}
+use Rattle.input.specs.Limits.{sheetsBytes}
 use Rattle.input.specs.Bytes.{readable, wordsOf}
 use Rattle.input.specs.Lines.{refusedLine}
 use Rattle.sheet.specs.declared.answer.Sort.{Sort}
@@ -56,20 +57,20 @@ module _ (sort : Sort) (bytes : List ℕ) where
   abbrev first : Refusal
   first = firstNo (questions sort (wordsOf bytes))
 
-  taken-accepted : (check : Check) → CheckedBytes sort bytes check → check ≡ Accepted → (readable 29006 (length bytes) ≡ true) × (first .number ≡ 0)
+  taken-accepted : (check : Check) → CheckedBytes sort bytes check → check ≡ Accepted → (readable sheetsBytes (length bytes) ≡ true) × (first .number ≡ 0)
   taken-accepted check (unreadable no-count) e = let z : _≡_ {A = ℕ} 0 1 = cc in absurd (omega arith)
   taken-accepted check (words ok a) e = (ok, accepted-none (questions sort (wordsOf bytes)) check a e)
 
-  accepted-taken : (check : Check) → CheckedBytes sort bytes check → readable 29006 (length bytes) ≡ true → first .number ≡ 0 → check ≡ Accepted
+  accepted-taken : (check : Check) → CheckedBytes sort bytes check → readable sheetsBytes (length bytes) ≡ true → first .number ≡ 0 → check ≡ Accepted
   accepted-taken check (unreadable no-count) ok z = absurd (true≢false (sym ok ∙ no-count))
   accepted-taken check (words ok′ a) ok z = a .accepted z
 
-  refused-taken : (check : Check) → CheckedBytes sort bytes check → readable 29006 (length bytes) ≡ true → 1 ≤ first .number
+  refused-taken : (check : Check) → CheckedBytes sort bytes check → readable sheetsBytes (length bytes) ≡ true → 1 ≤ first .number
       → check ≡ Refused (first .number) (first .sheet)
   refused-taken check (unreadable no-count) ok some = absurd (true≢false (sym ok ∙ no-count))
   refused-taken check (words ok′ a) ok some = refused-first (questions sort (wordsOf bytes)) check a some
 
-  refused-untaken : (check : Check) → CheckedBytes sort bytes check → readable 29006 (length bytes) ≡ false → check ≡ Refused 0 0
+  refused-untaken : (check : Check) → CheckedBytes sort bytes check → readable sheetsBytes (length bytes) ≡ false → check ≡ Refused 0 0
   refused-untaken check (unreadable no-count) other = refl
   refused-untaken check (words ok a) other = absurd (true≢false (sym ok ∙ other))
 
@@ -81,28 +82,28 @@ module _ (sort : Sort) (bytes : List ℕ) where
     unfolding lineBytes
     said = held-text (told .line) (lineBytes (told .answer)) (h .held) ∙ ap lineBytes (checked .1)
 
-    pub accepted-exactly : (text (told .line) ≡ checkLine Accepted) ↔ ((readable 29006 (length bytes) ≡ true) × (first .number ≡ 0))
+    pub accepted-exactly : (text (told .line) ≡ checkLine Accepted) ↔ ((readable sheetsBytes (length bytes) ≡ true) × (first .number ≡ 0))
     accepted-exactly = (
       λ e. taken-accepted (checked .0) (checked .2) (is-accepted (checked .0) (sym said ∙ e)),
       λ z. said ∙ ap checkLine (accepted-taken (checked .0) (checked .2) (z .0) (z .1)),
     )
 
-    pub refused-line : readable 29006 (length bytes) ≡ true → 1 ≤ first .number → text (told .line) ≡ refusedLine (first .number) (first .sheet)
+    pub refused-line : readable sheetsBytes (length bytes) ≡ true → 1 ≤ first .number → text (told .line) ≡ refusedLine (first .number) (first .sheet)
     unfolding checkLine
     refused-line ok some = said ∙ ap checkLine (refused-taken (checked .0) (checked .2) ok some)
 
-    pub unreadable-line : readable 29006 (length bytes) ≡ false → text (told .line) ≡ refusedLine 0 0
+    pub unreadable-line : readable sheetsBytes (length bytes) ≡ false → text (told .line) ≡ refusedLine 0 0
     unfolding checkLine
     unreadable-line other = said ∙ ap checkLine (refused-untaken (checked .0) (checked .2) other)
 
 -- ---- of a machine sheet and of a rule sheet
 
 pub machine-accepted : (bytes : List ℕ) (told : Told·.Told) → Told Machine false bytes told
-    → (text (told .line) ≡ checkLine Accepted) ↔ ((readable 29006 (length bytes) ≡ true) × (machineRefusal (wordsOf bytes) ≡ 0))
+    → (text (told .line) ≡ checkLine Accepted) ↔ ((readable sheetsBytes (length bytes) ≡ true) × (machineRefusal (wordsOf bytes) ≡ 0))
 unfolding questions machineRefusal
 machine-accepted bytes told h = accepted-exactly Machine bytes told h
 
 pub rules-accepted : (bytes : List ℕ) (told : Told·.Told) → Told Rules false bytes told
-    → (text (told .line) ≡ checkLine Accepted) ↔ ((readable 29006 (length bytes) ≡ true) × (ruleRefusal lent (wordsOf bytes) ≡ 0))
+    → (text (told .line) ≡ checkLine Accepted) ↔ ((readable sheetsBytes (length bytes) ≡ true) × (ruleRefusal lent (wordsOf bytes) ≡ 0))
 unfolding questions ruleRefusal
 rules-accepted bytes told h = accepted-exactly Rules bytes told h
