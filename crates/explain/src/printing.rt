@@ -1,4 +1,5 @@
 // The answer in words, on standard output. What a descriptor carries cannot be said in a contract; each function is proved safe and ends.
+use crate::page;
 use crate::sentence;
 use crate::verdict::Verdict;
 use comparison::compare::Answer;
@@ -30,7 +31,7 @@ pub fn print(answer: Answer, verdict: Verdict, rule: &[u16]) {
 
 // The rule in one sentence.
 fn print_sentence(rule: &[u16]) {
-    let mut page = [0u8; 4096];
+    let mut page = [0u8; page::SIZE];
     let n = sentence::sentence(rule, &mut page);
     text(&page[..n]);
 }

@@ -3,7 +3,7 @@
 ghost use mathlib.Core.Path.{_≡_};
 ghost use Prim.Native.Nat.{_<_};
 ghost use lib.ListN.{length};
-ghost use Rattle.explain.specs.Pages.{Follows, Narrow};
+ghost use Rattle.explain.specs.Pages.{pageSize, Follows, Narrow};
 use crate::page;
 use crate::page::Cursor;
 use crate::parts;
@@ -14,7 +14,7 @@ use sheets::rules;
 // ---- signals
 
 // What stands before a signal's number, but the first, in a list of signals; `left` are those from it on.
-fn between(page: &mut [u8; 4096], c: Cursor, left: u32, pair: bool) -> Cursor
+fn between(page: &mut [u8; page::SIZE], c: Cursor, left: u32, pair: bool) -> Cursor
     ensures { λ r. ⌜ Follows (now (page .entry)) c (now (page .exit)) r ⌝ }
 {
     if pair {
@@ -27,7 +27,7 @@ fn between(page: &mut [u8; 4096], c: Cursor, left: u32, pair: bool) -> Cursor
 }
 
 // The number of signal i + 1, if it is in the set; `pair` where two are in it and neither is on.
-fn put_signal(page: &mut [u8; 4096], c: Cursor, set: u16, i: u16, pair: bool) -> Cursor
+fn put_signal(page: &mut [u8; page::SIZE], c: Cursor, set: u16, i: u16, pair: bool) -> Cursor
     requires { ⌜ i < 16 ⌝ }
     ensures { λ r. ⌜ Follows (now (page .entry)) c (now (page .exit)) r ⌝ }
 {
@@ -44,7 +44,7 @@ fn put_signal(page: &mut [u8; 4096], c: Cursor, set: u16, i: u16, pair: bool) ->
 }
 
 // The numbers of a set of signals.
-fn numbers(page: &mut [u8; 4096], c: Cursor, set: u16, pair: bool) -> Cursor
+fn numbers(page: &mut [u8; page::SIZE], c: Cursor, set: u16, pair: bool) -> Cursor
     ensures { λ r. ⌜ Follows (now (page .entry)) c (now (page .exit)) r ⌝ }
 {
     let mut c = c;
@@ -58,7 +58,7 @@ fn numbers(page: &mut [u8; 4096], c: Cursor, set: u16, pair: bool) -> Cursor
 
 // The numbers of a set of signals with the words around them; `pair` as above.
 fn listed(
-    page: &mut [u8; 4096],
+    page: &mut [u8; page::SIZE],
     c: Cursor,
     set: u16,
     pair: bool,
@@ -73,7 +73,7 @@ fn listed(
 }
 
 // That the signals of a set are on, or off: "signal 1 is on", "signals 1, 2 and 3 are off", "neither signal 1 nor signal 2 is on".
-fn signals(page: &mut [u8; 4096], c: Cursor, set: u16, on: bool) -> Cursor
+fn signals(page: &mut [u8; page::SIZE], c: Cursor, set: u16, on: bool) -> Cursor
     ensures { λ r. ⌜ Follows (now (page .entry)) c (now (page .exit)) r ⌝ }
 {
     let count = u16::count_ones(set);
@@ -109,11 +109,14 @@ fn fits(c: Cursor) -> bool {
     if c.over {
         return false;
     }
-    c.column < 100
+    c.column < page::WIDTH
 }
 
-// There is room to go on with so many lines as parts in the same line: with none, or with one, which takes at most 38 bytes and a comma,
-// since ", and line 938 holds and does not hold" is the longest.
+// How far a line may be where one more part goes on in it: such a part takes at most 38 bytes and a comma, since ", and line 938 holds and
+// does not hold" is the longest.
+const ONE_MORE: u16 = page::WIDTH - 39;
+
+// There is room to go on with so many lines as parts in the same line: with none, or with one.
 fn goes_on(c: Cursor, rest: u16) -> bool {
     if rest == 0 {
         return fits(c);
@@ -124,11 +127,11 @@ fn goes_on(c: Cursor, rest: u16) -> bool {
     if c.over {
         return false;
     }
-    c.column <= 61
+    c.column <= ONE_MORE
 }
 
 // Ends the line and begins the next one at a level.
-fn new_line(page: &mut [u8; 4096], c: Cursor, level: u16) -> Cursor
+fn new_line(page: &mut [u8; page::SIZE], c: Cursor, level: u16) -> Cursor
     ensures { λ r. ⌜ Follows (now (page .entry)) c (now (page .exit)) r ⌝ }
 {
     let ended = page::end_line(page, c);
@@ -136,7 +139,7 @@ fn new_line(page: &mut [u8; 4096], c: Cursor, level: u16) -> Cursor
 }
 
 // "and", in the same line or in the next one.
-fn and(page: &mut [u8; 4096], c: Cursor, level: u16, flow: bool) -> Cursor
+fn and(page: &mut [u8; page::SIZE], c: Cursor, level: u16, flow: bool) -> Cursor
     ensures { λ r. ⌜ Follows (now (page .entry)) c (now (page .exit)) r ⌝ }
 {
     if flow {
@@ -148,7 +151,7 @@ fn and(page: &mut [u8; 4096], c: Cursor, level: u16, flow: bool) -> Cursor
 }
 
 // "and", where another part stands before.
-fn after_others(page: &mut [u8; 4096], c: Cursor, at: Place) -> Cursor
+fn after_others(page: &mut [u8; page::SIZE], c: Cursor, at: Place) -> Cursor
     ensures { λ r. ⌜ Follows (now (page .entry)) c (now (page .exit)) r ⌝ }
 {
     if at.second {
@@ -158,7 +161,14 @@ fn after_others(page: &mut [u8; 4096], c: Cursor, at: Place) -> Cursor
 }
 
 // The signals among the parts: those that are on, and those that are off.
-fn on_and_off(page: &mut [u8; 4096], c: Cursor, on: u16, off: u16, level: u16, flow: bool) -> Cursor
+fn on_and_off(
+    page: &mut [u8; page::SIZE],
+    c: Cursor,
+    on: u16,
+    off: u16,
+    level: u16,
+    flow: bool,
+) -> Cursor
     ensures { λ r. ⌜ Follows (now (page .entry)) c (now (page .exit)) r ⌝ }
 {
     if on == 0 {
@@ -182,7 +192,7 @@ fn on_and_off(page: &mut [u8; 4096], c: Cursor, on: u16, off: u16, level: u16, f
 
 // The same, where there may be none.
 fn any_signals(
-    page: &mut [u8; 4096],
+    page: &mut [u8; page::SIZE],
     c: Cursor,
     on: u16,
     off: u16,
@@ -227,7 +237,7 @@ fn closed(c: Cursor) -> Put
 // A part that begins with these words and a colon, if there is room for what follows; otherwise nothing is put.
 fn opened(
     rule: &[u16],
-    page: &mut [u8; 4096],
+    page: &mut [u8; page::SIZE],
     c: Cursor,
     at: Place,
     words: &[u8],
@@ -239,7 +249,7 @@ fn opened(
     if at.deep == 0 {
         return closed(c);
     }
-    let mut marks = [0u8; 1024];
+    let mut marks = [0u8; parts::MARKS];
     let inner = parts::gather(rule, &mut marks, line, mark);
     let headed = page::put(page, c, words);
     let begun = page::put(page, headed, b": ");
@@ -271,14 +281,16 @@ fn opened(
     }
 }
 
+const LINES: usize = page::HEIGHT as usize;
+
 // There are lines left: below those that are ended, one for each part that is still to be put, and for what is set in below this one as
 // many as it has parts, and two for signals.
 fn has_lines(ended: u16, owed: u16, rest: u16) -> bool {
-    ended as usize + owed as usize + rest as usize + 2 <= 40
+    ended as usize + owed as usize + rest as usize + 2 <= LINES
 }
 
 // "line 7".
-fn put_line(page: &mut [u8; 4096], c: Cursor, l: u16) -> Cursor
+fn put_line(page: &mut [u8; page::SIZE], c: Cursor, l: u16) -> Cursor
     ensures { λ r. ⌜ Follows (now (page .entry)) c (now (page .exit)) r ⌝ }
 {
     let said = page::put(page, c, b"line ");
@@ -286,7 +298,7 @@ fn put_line(page: &mut [u8; 4096], c: Cursor, l: u16) -> Cursor
 }
 
 // A part that only refers to its line.
-fn referred(page: &mut [u8; 4096], c: Cursor, l: u16, mark: u8) -> Cursor
+fn referred(page: &mut [u8; page::SIZE], c: Cursor, l: u16, mark: u8) -> Cursor
     ensures { λ r. ⌜ Follows (now (page .entry)) c (now (page .exit)) r ⌝ }
 {
     let said = put_line(page, c, l);
@@ -300,7 +312,14 @@ fn referred(page: &mut [u8; 4096], c: Cursor, l: u16, mark: u8) -> Cursor
 }
 
 // Some next node, or none, has line j.
-fn next_part(rule: &[u16], page: &mut [u8; 4096], c: Cursor, at: Place, words: &[u8], j: u16) -> Put
+fn next_part(
+    rule: &[u16],
+    page: &mut [u8; page::SIZE],
+    c: Cursor,
+    at: Place,
+    words: &[u8],
+    j: u16,
+) -> Put
     ensures { λ r. ⌜ Follows (now (page .entry)) c (now (page .exit)) (r .cursor) ⌝ }
 {
     let put = opened(rule, page, c, at, words, j, parts::HOLDS);
@@ -313,7 +332,7 @@ fn next_part(rule: &[u16], page: &mut [u8; 4096], c: Cursor, at: Place, words: &
 }
 
 // Line l, "or", holds: it is not that neither does.
-fn or_part(rule: &[u16], page: &mut [u8; 4096], c: Cursor, at: Place, l: u16) -> Put
+fn or_part(rule: &[u16], page: &mut [u8; page::SIZE], c: Cursor, at: Place, l: u16) -> Put
     ensures { λ r. ⌜ Follows (now (page .entry)) c (now (page .exit)) (r .cursor) ⌝ }
 {
     let put = opened(rule, page, c, at, b"not", l, parts::FAILS);
@@ -324,7 +343,7 @@ fn or_part(rule: &[u16], page: &mut [u8; 4096], c: Cursor, at: Place, l: u16) ->
 }
 
 // Line l with its mark, as the first part or the next one; nothing, if it has no mark.
-fn part(rule: &[u16], page: &mut [u8; 4096], c: Cursor, at: Place, l: u16, mark: u8) -> Put
+fn part(rule: &[u16], page: &mut [u8; page::SIZE], c: Cursor, at: Place, l: u16, mark: u8) -> Put
     ensures { λ r. ⌜ Follows (now (page .entry)) c (now (page .exit)) (r .cursor) ⌝ }
 {
     if mark == 0 {
@@ -380,10 +399,17 @@ fn place_after(at: Place, mark: u8) -> Place {
 }
 
 // The parts of line k with this mark, joined by "and", each opened where there is room.
-fn put_parts(rule: &[u16], page: &mut [u8; 4096], c: Cursor, at: Place, k: u16, mark: u8) -> Cursor
+fn put_parts(
+    rule: &[u16],
+    page: &mut [u8; page::SIZE],
+    c: Cursor,
+    at: Place,
+    k: u16,
+    mark: u8,
+) -> Cursor
     ensures { λ r. ⌜ Follows (now (page .entry)) c (now (page .exit)) r ⌝ }
 {
-    let mut marks = [0u8; 1024];
+    let mut marks = [0u8; parts::MARKS];
     let inner = parts::gather(rule, &mut marks, k, mark);
     let mut c = any_signals(page, c, inner.on, inner.off, at.level, at.flow);
     let mut there = first_place(at, inner);
@@ -412,9 +438,9 @@ fn put_parts(rule: &[u16], page: &mut [u8; 4096], c: Cursor, at: Place, k: u16, 
 
 // Puts the sentence of the rule, its last line, at the head of the page, and answers how long it is. A sentence that found no room is
 // left out: its length is 0.
-pub fn sentence(rule: &[u16], page: &mut [u8; 4096]) -> usize
-    requires { ⌜ length (now page) ≡ 4096 ⌝ }
-    ensures { λ n. ⌜ (length (now (page .exit)) ≡ 4096) × Narrow (now (page .exit)) n ⌝ }
+pub fn sentence(rule: &[u16], page: &mut [u8; page::SIZE]) -> usize
+    requires { ⌜ length (now page) ≡ pageSize ⌝ }
+    ensures { λ n. ⌜ (length (now (page .exit)) ≡ pageSize) × Narrow (now (page .exit)) n ⌝ }
 {
     let whole = Place {
         deep: 12,

@@ -1,4 +1,4 @@
--- A sheet as text and as bytes. A sheet has at most 14,503 words: the largest machine sheet, 4,483, with the largest rule sheet, 10,020.
+-- A sheet as text and as bytes.
 use Prim.Native.Nat.{ℕ, _%_}
 use mathlib.Core.List.{List, _++_}
 use mathlib.Core.Bool.{cond}
@@ -30,7 +30,7 @@ unfoldable pub ofRead : Read → List ℕ → Turn
 ofRead (words ws) lent = done (bytesOf ws) lent
 ofRead (fault kind at) lent = refused (Fault kind at) lent
 
--- a text of at most 200,000 bytes as bytes, with space for a whole sheet
+-- a text that is not too long as bytes, with space for a whole sheet
 unfoldable pub toBytes : List ℕ → List ℕ → Turn
 toBytes text lent =
     cond (ltb textBytes (length text)) (refused Long lent) (cond (ltb (length lent) sheetsBytes) (refused NoRoom lent) (ofRead (readingOf sheetsWords text) lent))

@@ -17,8 +17,8 @@ pub record LabelledSheets (M R before after : List ℕ) (answer : Answer) : Type
   pub nodes : answer .nodes ≡ nodes M
   pub lines : answer .lines ≡ lines R
 
--- The answer to bytes: a machine sheet and after it a rule sheet, cut by the machine's header. The longest machine sheet has 4,483
--- words and the longest rule sheet 10,020, 29,006 bytes together; more bytes, or an odd number of them, are refused.
+-- the answer to bytes: a machine sheet and after it a rule sheet, cut by the machine's header; more bytes than the longest two have, or an
+-- odd number of them, are refused
 abbrev pub Answered : List ℕ → List ℕ → List ℕ → Answer → Type 0
 Answered bytes before after answer =
     Reply sheetsBytes bytes ((answer .labelled ≡ Refused 0 0) × (after ≡ before)) (λ (M R : List ℕ). LabelledSheets M R before after answer)

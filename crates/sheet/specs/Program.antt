@@ -31,13 +31,13 @@ unfolding machineQuestions lent ruleQuestions
 questions Machine words = machineQuestions 1 words
 questions Rules words = ruleQuestions lent words
 
--- The answer to a sheet's bytes. The largest machine sheet with the largest rule sheet has 29,006, and no program takes more of them; more,
--- or an odd number, are refused as question 0.
+-- the answer to a sheet's bytes; more than the longest machine sheet with the longest rule sheet has, or an odd number, are refused as
+-- question 0
 pub data CheckedBytes (sort : Sort) (bytes : List ℕ) : Check.Check → Type 0 where
   unreadable : readable sheetsBytes (length bytes) ≡ false → CheckedBytes sort bytes (Refused 0 0)
   words : {check : Check.Check} → readable sheetsBytes (length bytes) ≡ true → Answered (questions sort (wordsOf bytes)) check → CheckedBytes sort bytes check
 
--- the answer to a sheet's text: of at most 200,000 bytes, and 14,503 words
+-- the answer to a sheet's text, which may be too long
 pub data CheckedText (sort : Sort) (text : List ℕ) : Answer.Answer → Type 0 where
   long : textBytes < length text → CheckedText sort text Says.Long
   fault : {kind : Kind} {at : Place} → length text ≤ textBytes → Texts.readingOf sheetsWords text ≡ Texts.fault kind at
