@@ -4,6 +4,7 @@ ghost use mathlib.Core.List.{_∷_, []};
 ghost use Prim.Native.Nat.{ℕ, _+_, _-_, _*_, _^_, _<_, _≤_};
 ghost use Rattle.sheets.specs.Questions.{ask, firstNo};
 ghost use lib.Dec.{T};
+ghost use Rattle.sheets.specs.Format.{operationPlace};
 ghost use Rattle.sheets.specs.Operations.{oneSignal, linesAbove};
 ghost use Rattle.sheets.specs.Rules as Rules;
 ghost use Rattle.sheets.specs.Lines as Lines;
@@ -13,9 +14,13 @@ use crate::words;
 
 // The operations.
 pub const SIGNAL: u16 = 0;
+
 pub const NEGATION: u16 = 1;
+
 pub const EITHER: u16 = 2;
+
 pub const SOME_PATH: u16 = 3;
+
 pub const SOME_PATH_NOT: u16 = 4;
 
 // An automaton with the lines of the variables that it may have; what stands past those that it has is 0.
@@ -39,6 +44,13 @@ pub enum Line {
 pub enum Decoded {
     Formed(Line),
     Malformed,
+}
+
+// The operation of line j.
+pub fn operation(r: &[u16], j: u16) -> u16
+    ensures { λ o. ⌜ o ≡ Rules.lineWord Rules.lent (now (r .entry)) j operationPlace ⌝ }
+{
+    rules::line_word(r, j, format::OPERATION)
 }
 
 // The words of line j from word c on are zero, and c is at most the record's length.
@@ -108,7 +120,7 @@ fn path_fits(r: &[u16], j: u16) -> bool
 }
 
 // The automaton and the lines that the words of line j name.
-fn path_line(r: &[u16], j: u16) -> PathLine
+pub fn path_line(r: &[u16], j: u16) -> PathLine
     ensures { λ p. ⌜ p ≡ Lines.pathLine (Rules.lineWord Rules.lent (now (r .entry)) j 1) (λ i. Rules.lineWord Rules.lent (now (r .entry)) j (2 + i)) ⌝ }
 {
     let automaton = rules::line_word(r, j, 1);
@@ -136,7 +148,7 @@ pub fn arguments(p: PathLine) -> [u16; format::VARIABLES]
 pub fn decode(r: &[u16], j: u16) -> Decoded
     ensures { λ d. ⌜ d ≡ Lines.decoded (now (r .entry)) j ⌝ }
 {
-    let op = rules::line_word(r, j, format::OPERATION);
+    let op = operation(r, j);
     match op {
         SIGNAL => {
             if signal_fits(r, j) {

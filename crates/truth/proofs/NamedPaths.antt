@@ -1,7 +1,7 @@
 -- It does not matter to the paths of a line, nor to a list that shows one, whether an automaton's states are given by names or by positions.
 use mathlib.Core.Path.{_≡_, refl, sym, ap, _∙_}
 use mathlib.Core.Logic.{_↔_}
-use Prim.Native.Nat.{ℕ, zero, suc, _≤_}
+use Prim.Native.Nat.{ℕ, zero, suc, _≤_, _<_}
 use native.Mathlib.Omega.{arith}
 use mathlib.Core.List.{List}
 use mathlib.Core.Bool.{Bool}
@@ -11,7 +11,7 @@ use Rattle.sheets.specs.Rules.{Form, automata, automaton, ruleRefusal}
 use Rattle.sheets.specs.Sound.{OneTo, Sound}
 use Rattle.sheets.specs.Positioned.{stateOf, positioned}
 use Rattle.sheets.proofs.PositionedStates.{Named, positioned-sound, positioned-named}
-use Rattle.truth.specs.Truth.{Truths, SomePath}
+use Rattle.truth.specs.Truth.{Truths, Valuation, SomePath}
 use Rattle.truth.specs.Lists.{AutomatonStep, Lasso}
 use Rattle.truth.specs.Product.{turned, good}
 
@@ -96,3 +96,22 @@ module _ (F : Form) (R : List ℕ) (accepted : ruleRefusal F R ≡ 0) (x : ℕ) 
   path-by-position K above arg exchanged s =
       path-named (positioned-named F R accepted x lo hi) K above arg (good exchanged (automaton R x)) (good exchanged (positioned R x))
       (good-named exchanged) s (positioned-sound F R accepted x lo hi)
+
+-- a path asks of the argument lines below the automaton's variables alone
+module _ (K : Kripke) (A : Automaton) (above : Truths) (good : ℕ → Bool) (s : ℕ) where
+  other-arguments : (arg arg′ : ℕ → ℕ) → ((i : ℕ) → i < A .variables → arg i ≡ arg′ i) → SomePath K A above arg good s → SomePath K A above arg′ good s
+  unfolding Valuation
+  other-arguments arg arg′ same p = record {
+    node = p .node;
+    state = p .state;
+    valuation = p .valuation;
+    starts = p .starts;
+    begins = p .begins;
+    moves = p .moves;
+    values = λ i. (p .values i .0, λ k l. rw (same k l) at (p .values i .1 k l));
+    goes = p .goes;
+    recurs = p .recurs;
+  }
+
+  pub path-arguments : (arg arg′ : ℕ → ℕ) → ((i : ℕ) → i < A .variables → arg i ≡ arg′ i) → SomePath K A above arg good s ↔ SomePath K A above arg′ good s
+  path-arguments arg arg′ same = (other-arguments arg arg′ same, other-arguments arg′ arg (λ i l. sym (same i l)))

@@ -15,7 +15,7 @@ use Rattle.sheets.specs.Positioned.{positioned}
 use Rattle.sheets.specs.declared.position.ByPosition.{ByPosition}
 use Rattle.truth.specs.Sizes.{membersMost, rowWords}
 use Rattle.truth.specs.Truth.{Means, SomePath}
-use Rattle.truth.specs.Product.{argument, good, Refers, Allowed, GoodRows}
+use Rattle.truth.specs.Product.{good, Refers, Allowed, GoodRows}
 use Rattle.truth.specs.Pairs.{edgeIn, Transposed, Greatest, Least}
 use Rattle.truth.specs.Labelling.{rowTruths}
 
@@ -42,12 +42,12 @@ pub record LineRow (M R rows : List ℕ) (j : ℕ) (row : ℕ → Bool) : Type 0
   pub truth : (s : ℕ) → 1 ≤ s → s ≤ nodes M → T (row s) ↔ Means (kripke M) (automaton R) (rowTruths rows) (line lent R j) s
   pub clear : (s : ℕ) → nodes M < s → row s ≡ false
 
--- a path line of automaton x, whose argument lines stand above it
-pub record PathReady (M R next back rows : List ℕ) (j x : ℕ) : Type 0 where
+-- a path line of automaton x, whose argument lines have rows
+pub record PathReady (M R next back rows : List ℕ) (arg : ℕ → ℕ) (x : ℕ) : Type 0 where
   pub ready : Ready M R next back
   pub from : 1 ≤ x
   pub to : x ≤ automata R
-  pub arguments : Refers rows (argument R j) (positioned R x .variables)
+  pub arguments : Refers rows arg (positioned R x .variables)
 
 -- what a path line's tables ask for: an automaton by position that fits them, whose argument lines have rows
 pub record Solvable (M next back rows : List ℕ) (arg : ℕ → ℕ) (a : ByPosition) : Type 0 where
@@ -56,13 +56,13 @@ pub record Solvable (M next back rows : List ℕ) (arg : ℕ → ℕ) (a : ByPos
   pub valued : a .variables ≤ variablesMost
   pub arguments : Refers rows arg (a .variables)
 
--- the path of line j exists from s, by the bits of the rows above it
-abbrev pub Holds : List ℕ → List ℕ → List ℕ → ℕ → ℕ → Bool → ℕ → Type 0
-Holds M R rows j x exchanged s = SomePath (kripke M) (positioned R x) (rowTruths rows) (argument R j) (good exchanged (positioned R x)) s
+-- the path of its automaton x exists from s, by the bits of the rows of its argument lines
+abbrev pub Holds : List ℕ → List ℕ → List ℕ → (ℕ → ℕ) → ℕ → Bool → ℕ → Type 0
+Holds M R rows arg x exchanged s = SomePath (kripke M) (positioned R x) (rowTruths rows) arg (good exchanged (positioned R x)) s
 
--- a set has the nodes from which the path of line j exists, and no other bit
-pub record PathRow (M R rows : List ℕ) (j x : ℕ) (exchanged : Bool) (row : ℕ → Bool) : Type 0 where
-  pub truth : (s : ℕ) → 1 ≤ s → s ≤ nodes M → T (row s) ↔ Holds M R rows j x exchanged s
+-- a set has the nodes from which that path exists, and no other bit
+pub record PathRow (M R rows : List ℕ) (arg : ℕ → ℕ) (x : ℕ) (exchanged : Bool) (row : ℕ → Bool) : Type 0 where
+  pub truth : (s : ℕ) → 1 ≤ s → s ≤ nodes M → T (row s) ↔ Holds M R rows arg x exchanged s
   pub clear : (s : ℕ) → nodes M < s → row s ≡ false
 
 -- the nodes of M, as a row has them

@@ -10,6 +10,8 @@ use lib.Dec.{T}
 use Rattle.sheets.specs.Words.{bit}
 use Rattle.sheets.specs.Structures.{Automaton}
 use Rattle.sheets.specs.Rules.{lent, lineWord}
+use Rattle.sheets.specs.Lines.{arguments}
+use Rattle.sheets.specs.declared.lines.PathLine.{PathLine}
 use Rattle.truth.specs.Sizes.{rowWords, positionsMost, tableWords, cell}
 use Rattle.truth.specs.Rows.{rowsHas}
 use Rattle.truth.specs.Links.{Into, Onto}
@@ -24,9 +26,15 @@ unfolding same bit
 agrees zero w f = true
 agrees (suc v) w f = agrees v w f && same (bit w v) (f v)
 
--- the line of variable i + 1 of line j
+-- the line of variable i + 1 of line j; of a list of lines; of a decoded line
 abbrev pub argument : List ℕ → ℕ → ℕ → ℕ
 argument R j i = lineWord lent R j (2 + i)
+
+abbrev pub lineAt : List ℕ → ℕ → ℕ
+lineAt lines i = getD lines i 0
+
+abbrev pub argumentOf : PathLine → ℕ → ℕ
+argumentOf p = lineAt (arguments p)
 
 -- the truth of variable i + 1 at node s, where `arg i` is its line, by the rows of the lines above
 abbrev pub argumentAt : List ℕ → (ℕ → ℕ) → ℕ → ℕ → Bool

@@ -11,7 +11,7 @@ ghost use Rattle.sheets.specs.Tabled.{Tabled};
 ghost use Rattle.truth.specs.Sizes.{membersMost, rowWords, tableWords};
 ghost use Rattle.truth.specs.Rows.{rowHas, rowsHas};
 ghost use Rattle.truth.specs.Pairs.{NoRow, NoTime};
-ghost use Rattle.truth.specs.Product.{argument};
+ghost use Rattle.truth.specs.Product.{lineAt, argumentOf};
 ghost use Rattle.truth.specs.OneLine.{LineReady, LineRow, Solvable, PathReady, PathRow, SolvedLine};
 use crate::growth::grow;
 use crate::positions;
@@ -23,8 +23,11 @@ use crate::sizes::TABLE_WORDS;
 use crate::structure;
 use crate::tables::line_row;
 use crate::trimming::trim;
+use sheets::format;
 use sheets::lines::Decoded;
 use sheets::lines::Line;
+use sheets::lines::PathLine;
+use sheets::lines::arguments;
 use sheets::lines::decode;
 use sheets::machine;
 use sheets::position;
@@ -36,32 +39,30 @@ struct Sets {
     reached: [u64; SET_WORDS],
 }
 
-// Solves line j for an automaton by position, with accepting and non-accepting exchanged for operation 4. Where the automaton may go is
+// Solves a path line with these argument lines for an automaton by position, with accepting and non-accepting exchanged for operation 4. Where the automaton may go is
 // written to an empty table, and times to a table of zeros, if it has room for all pairs.
 fn solve_with(
     m: &[u16],
-    r: &[u16],
     next: &[u64; TABLE_WORDS],
     back: &[u64; TABLE_WORDS],
     rows: &[u64],
-    j: u16,
+    lines: [u16; format::VARIABLES],
     a: ByPosition,
     exchanged: bool,
     allow: &mut [u64; TABLE_WORDS],
     times: &mut [u16],
 ) -> Sets
-    requires { ⌜ Solvable (now m) (now next) (now back) (now rows) (argument (now r) j) a × (length (now allow) ≡ tableWords) × ((p : ℕ) → NoRow (now allow) p) × NoTime (now times) ⌝ }
-    ensures { λ s. ⌜ ((A : Automaton) (t : ℕ) (name : ℕ → ℕ) → Tabled A t name a → SolvedLine (now (m .entry)) A t (now (next .entry)) (now (rows .entry)) (argument (now (r .entry)) j) exchanged (now (allow .exit)) (s .lasting) (s .reached) (now (times .exit))) ⌝ }
+    requires { ⌜ Solvable (now m) (now next) (now back) (now rows) (lineAt lines) a × (length (now allow) ≡ tableWords) × ((p : ℕ) → NoRow (now allow) p) × NoTime (now times) ⌝ }
+    ensures { λ s. ⌜ ((A : Automaton) (t : ℕ) (name : ℕ → ℕ) → Tabled A t name a → SolvedLine (now (m .entry)) A t (now (next .entry)) (now (rows .entry)) (lineAt lines) exchanged (now (allow .exit)) (s .lasting) (s .reached) (now (times .exit))) ⌝ }
 {
     let all = structure::node_row(machine::nodes(m));
     let t = a.count;
     let mut into = [0u64; SET_WORDS];
     let mut onto = [0u64; SET_WORDS];
     product::allow_table(
-        r,
         rows,
         all,
-        j,
+        lines,
         a.variables,
         t,
         &a.masks,
@@ -86,29 +87,27 @@ pub struct Solved {
     pub times: [u16; PAIRS],
 }
 
-// Solves line j with times, by which a path is found.
+// Solves one with times, by which a path is found.
 pub fn solve(
     m: &[u16],
-    r: &[u16],
     next: &[u64; TABLE_WORDS],
     back: &[u64; TABLE_WORDS],
     rows: &[u64],
-    j: u16,
+    lines: [u16; format::VARIABLES],
     a: ByPosition,
     exchanged: bool,
 ) -> Solved
-    requires { ⌜ Solvable (now m) (now next) (now back) (now rows) (argument (now r) j) a ⌝ }
-    ensures { λ s. ⌜ ((A : Automaton) (t : ℕ) (name : ℕ → ℕ) → Tabled A t name a → SolvedLine (now (m .entry)) A t (now (next .entry)) (now (rows .entry)) (argument (now (r .entry)) j) exchanged (s .allow) (s .lasting) (s .reached) (s .times)) ⌝ }
+    requires { ⌜ Solvable (now m) (now next) (now back) (now rows) (lineAt lines) a ⌝ }
+    ensures { λ s. ⌜ ((A : Automaton) (t : ℕ) (name : ℕ → ℕ) → Tabled A t name a → SolvedLine (now (m .entry)) A t (now (next .entry)) (now (rows .entry)) (lineAt lines) exchanged (s .allow) (s .lasting) (s .reached) (s .times)) ⌝ }
 {
     let mut allow = [0u64; TABLE_WORDS];
     let mut times = [0u16; PAIRS];
     let sets = solve_with(
         m,
-        r,
         next,
         back,
         rows,
-        j,
+        lines,
         a,
         exchanged,
         &mut allow,
@@ -124,30 +123,28 @@ pub fn solve(
     }
 }
 
-// The nodes from which the path of line j exists; for them no times are kept.
+// The nodes from which the path of a path line exists; for them no times are kept.
 fn path_row(
     m: &[u16],
     r: &[u16],
     next: &[u64; TABLE_WORDS],
     back: &[u64; TABLE_WORDS],
     rows: &[u64],
-    j: u16,
-    x: u16,
+    p: PathLine,
     exchanged: bool,
 ) -> Row
-    requires { ⌜ PathReady (now m) (now r) (now next) (now back) (now rows) j x ⌝ }
-    ensures { λ row. ⌜ PathRow (now (m .entry)) (now (r .entry)) (now (rows .entry)) j x exchanged (rowHas row) ⌝ }
+    requires { ⌜ PathReady (now m) (now r) (now next) (now back) (now rows) (argumentOf p) (p .automaton) ⌝ }
+    ensures { λ row. ⌜ PathRow (now (m .entry)) (now (r .entry)) (now (rows .entry)) (argumentOf p) (p .automaton) exchanged (rowHas row) ⌝ }
 {
-    let a = position::by_position(r, x);
+    let a = position::by_position(r, p.automaton);
     let mut allow = [0u64; TABLE_WORDS];
     let mut times = [0u16; 1];
     let sets = solve_with(
         m,
-        r,
         next,
         back,
         rows,
-        j,
+        arguments(p),
         a,
         exchanged,
         &mut allow,
@@ -196,7 +193,7 @@ pub fn row_of_line(
         Line::Signal(i) => structure::signal_row(m, i),
         Line::Negation(k) => negation_row(m, rows, k),
         Line::Either(i, k) => either_row(m, rows, i, k),
-        Line::SomePath(x) => path_row(m, r, next, back, rows, j, x, false),
-        Line::SomePathNot(x) => path_row(m, r, next, back, rows, j, x, true),
+        Line::SomePath(p) => path_row(m, r, next, back, rows, p, false),
+        Line::SomePathNot(p) => path_row(m, r, next, back, rows, p, true),
     }
 }

@@ -10,6 +10,7 @@ ghost use Rattle.sheets.specs.Machine as Machine;
 ghost use Rattle.sheets.specs.Rules as Rules;
 ghost use Rattle.truth.specs.Sizes.{positionsMost, membersMost, tableRows, pairsMost};
 ghost use Rattle.truth.specs.OneLine.{Ready, PathReady};
+ghost use Rattle.truth.specs.Product.{argumentOf};
 ghost use Rattle.truth.specs.Rows.{rowsHas};
 ghost use Rattle.truth.specs.Path as Path;
 ghost use Rattle.truth.specs.PathAnswers.{lengthOf, MadeFor, PathAnswer};
@@ -24,6 +25,12 @@ use crate::structure;
 use crate::trail::trace;
 use sheets::checks;
 use sheets::format;
+use sheets::lines::PathLine;
+use sheets::lines::SOME_PATH;
+use sheets::lines::SOME_PATH_NOT;
+use sheets::lines::arguments;
+use sheets::lines::operation;
+use sheets::lines::path_line;
 use sheets::machine;
 use sheets::position;
 use sheets::rules;
@@ -78,15 +85,15 @@ fn q18(m: &[u16], r: &[u16], line: u16, node: u16) -> bool
     if !sheets::words::within(1, machine::nodes(m), node) {
         return false;
     }
-    sheets::words::within(3, 4, rules::line_word(r, j, 0))
+    sheets::words::within(SOME_PATH, SOME_PATH_NOT, operation(r, j))
 }
 
 fn q19(m: &[u16], r: &[u16], line: u16, room: usize) -> bool
     ensures { λ b. ⌜ b ≡ Path.q19 (now (m .entry)) (now (r .entry)) line room ⌝ }
 {
-    let x = rules::line_word(r, asked(r, line), 1);
+    let p = path_line(r, asked(r, line));
     let n = machine::nodes(m) as usize;
-    let t = position::state_count(r, x) as usize;
+    let t = position::state_count(r, p.automaton) as usize;
     n * t <= room
 }
 
@@ -105,25 +112,24 @@ fn named(states: [u16; format::CHAINED], positions: [u16; PAIRS], count: u16) ->
     out
 }
 
-// The list for line j, of automaton x, at node s, by the rows above it: no path where the solved line's row has not the node.
+// The list for a path line at node s, by the rows above it: no path where the solved line's row has not the node.
 fn show(
     m: &[u16],
     r: &[u16],
     next: &[u64; TABLE_WORDS],
     back: &[u64; TABLE_WORDS],
     rows: &[u64],
-    j: u16,
-    x: u16,
+    p: PathLine,
     exchanged: bool,
     s: u16,
 ) -> Made
-    requires { ⌜ (PathReady (now m) (now r) (now next) (now back) (now rows) j x) × ((1 ≤ s) × (s ≤ Machine.nodes (now m))) ⌝ }
-    ensures { λ a. ⌜ ShowsLine (now (m .entry)) (now (r .entry)) (now (rows .entry)) j x exchanged s (a .nodes) (a .states) (a .answer) ⌝ }
+    requires { ⌜ (PathReady (now m) (now r) (now next) (now back) (now rows) (argumentOf p) (p .automaton)) × ((1 ≤ s) × (s ≤ Machine.nodes (now m))) ⌝ }
+    ensures { λ a. ⌜ ShowsLine (now (m .entry)) (now (r .entry)) (now (rows .entry)) (argumentOf p) (p .automaton) exchanged s (a .nodes) (a .states) (a .answer) ⌝ }
 {
-    let a = position::by_position(r, x);
+    let a = position::by_position(r, p.automaton);
     let t = a.count;
     let numbers = a.numbers;
-    let solved = solve(m, r, next, back, rows, j, a, exchanged);
+    let solved = solve(m, next, back, rows, arguments(p), a, exchanged);
     let row = load(&solved.reached, 0);
     if !row.has(s) {
         return Made {
@@ -163,25 +169,24 @@ fn show_with(
     r: &[u16],
     next: &[u64; TABLE_WORDS],
     rows: &[u64],
-    j: u16,
-    x: u16,
+    p: PathLine,
     exchanged: bool,
     s: u16,
 ) -> Made
-    requires { ⌜ (Machine.machineRefusal (now m) ≡ 0) × ((Rules.ruleRefusal Rules.lent (now r) ≡ 0) × (((s t : ℕ) → 1 ≤ s → s ≤ Machine.nodes (now m) → s ≤ tableRows → rowsHas (now next) (s - 1) t ≡ (within 1 membersMost t && Machine.kripke (now m) .edge s t)) × ((next back : List ℕ) → Ready (now m) (now r) next back → (PathReady (now m) (now r) next back (now rows) j x) × ((1 ≤ s) × (s ≤ Machine.nodes (now m)))))) ⌝ }
-    ensures { λ a. ⌜ ShowsLine (now (m .entry)) (now (r .entry)) (now (rows .entry)) j x exchanged s (a .nodes) (a .states) (a .answer) ⌝ }
+    requires { ⌜ (Machine.machineRefusal (now m) ≡ 0) × ((Rules.ruleRefusal Rules.lent (now r) ≡ 0) × (((s t : ℕ) → 1 ≤ s → s ≤ Machine.nodes (now m) → s ≤ tableRows → rowsHas (now next) (s - 1) t ≡ (within 1 membersMost t && Machine.kripke (now m) .edge s t)) × ((next back : List ℕ) → Ready (now m) (now r) next back → (PathReady (now m) (now r) next back (now rows) (argumentOf p) (p .automaton)) × ((1 ≤ s) × (s ≤ Machine.nodes (now m)))))) ⌝ }
+    ensures { λ a. ⌜ ShowsLine (now (m .entry)) (now (r .entry)) (now (rows .entry)) (argumentOf p) (p .automaton) exchanged s (a .nodes) (a .states) (a .answer) ⌝ }
 {
     let back = structure::predecessors(next, machine::nodes(m));
-    show(m, r, next, &back, rows, j, x, exchanged, s)
+    show(m, r, next, &back, rows, p, exchanged, s)
 }
 
 // The same with neither table. `make` calls it at two places, so that it keeps a frame of its own, and labelling runs without that.
-fn show_line(m: &[u16], r: &[u16], rows: &[u64], j: u16, x: u16, exchanged: bool, s: u16) -> Made
-    requires { ⌜ (Machine.machineRefusal (now m) ≡ 0) × ((Rules.ruleRefusal Rules.lent (now r) ≡ 0) × ((next back : List ℕ) → Ready (now m) (now r) next back → (PathReady (now m) (now r) next back (now rows) j x) × ((1 ≤ s) × (s ≤ Machine.nodes (now m))))) ⌝ }
-    ensures { λ a. ⌜ ShowsLine (now (m .entry)) (now (r .entry)) (now (rows .entry)) j x exchanged s (a .nodes) (a .states) (a .answer) ⌝ }
+fn show_line(m: &[u16], r: &[u16], rows: &[u64], p: PathLine, exchanged: bool, s: u16) -> Made
+    requires { ⌜ (Machine.machineRefusal (now m) ≡ 0) × ((Rules.ruleRefusal Rules.lent (now r) ≡ 0) × ((next back : List ℕ) → Ready (now m) (now r) next back → (PathReady (now m) (now r) next back (now rows) (argumentOf p) (p .automaton)) × ((1 ≤ s) × (s ≤ Machine.nodes (now m))))) ⌝ }
+    ensures { λ a. ⌜ ShowsLine (now (m .entry)) (now (r .entry)) (now (rows .entry)) (argumentOf p) (p .automaton) exchanged s (a .nodes) (a .states) (a .answer) ⌝ }
 {
     let next = structure::successors(m);
-    show_with(m, r, &next, rows, j, x, exchanged, s)
+    show_with(m, r, &next, rows, p, exchanged, s)
 }
 
 // Labels the lines above the asked one and makes the list for it, or says why there is none.
@@ -202,11 +207,11 @@ fn make(m: &[u16], r: &[u16], line: u16, node: u16, room: usize) -> Made
     let j = asked(r, line);
     let mut rows = [0u64; LINES_WORDS];
     label_lines(m, r, &mut rows, j - 1);
-    let x = rules::line_word(r, j, 1);
-    if rules::line_word(r, j, 0) == 4 {
-        return show_line(m, r, &rows, j, x, true, node);
+    let p = path_line(r, j);
+    if operation(r, j) == SOME_PATH_NOT {
+        return show_line(m, r, &rows, p, true, node);
     }
-    show_line(m, r, &rows, j, x, false, node)
+    show_line(m, r, &rows, p, false, node)
 }
 
 // A byte as a word.

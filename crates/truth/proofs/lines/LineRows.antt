@@ -1,5 +1,5 @@
 -- The row of a line by the operation of the line, from what the code reads of the rows above it.
-use mathlib.Core.Path.{_≡_, _∙_}
+use mathlib.Core.Path.{_≡_, sym, subst, _∙_}
 use mathlib.Core.Logic.{_↔_, Iff·symm, Iff·trans}
 use Prim.Native.Nat.{ℕ, _-_, _*_, _≤_, _<_}
 use native.Mathlib.Omega.{arith}
@@ -7,10 +7,12 @@ use mathlib.Core.List.{List}
 use mathlib.Core.Bool.{Bool, true, false, not, _&&_, _||_, and-assoc}
 use lib.ListN.{length}
 use lib.Dec.{T, not-T, leb, leb→le, le→leb}
+use Rattle.sheets.specs.Format.{variablesMost}
 use Rattle.sheets.specs.Words.{within}
 use Rattle.sheets.specs.Machine.{nodes, kripke, signalAt}
 use Rattle.sheets.specs.Rules.{lent, automata, automaton}
 use Rattle.sheets.specs.Lines.{decoded}
+use Rattle.sheets.specs.declared.lines.PathLine.{PathLine}
 use Rattle.sheets.specs.declared.lines.Line.{Line}
 use Rattle.sheets.specs.declared.lines.Line.the-variants.{Signal, Negation, Either, SomePath, SomePathNot}
 use Rattle.sheets.specs.declared.lines.Decoded.the-variants.{Formed, Malformed}
@@ -18,17 +20,17 @@ use Rattle.sheets.proofs.Tests.{passed, failed, not-is, or-is}
 use Rattle.sheets.proofs.Search.{within-in}
 use Rattle.sheets.proofs.AcceptedMachine.{nodes-sized}
 use Rattle.sheets.proofs.FormedLines as FormedLines
-use Rattle.sheets.proofs.PositionedStates.{positioned-named}
+use Rattle.sheets.proofs.PositionedStates.{positioned-named, few-valued}
 use Rattle.sheets.specs.Format.{signalsMost}
-use Rattle.truth.specs.Sizes.{membersMost}
+use Rattle.truth.specs.Sizes.{rowWords, membersMost}
 use Rattle.truth.specs.Rows.{rowsHas}
 use Rattle.truth.specs.Truth.{SomePath as PathFrom, Means}
 use Rattle.truth.specs.Labelling.{rowTruths}
-use Rattle.truth.specs.Product.{argument, turned, good}
+use Rattle.truth.specs.Product.{argument, argumentOf, turned, good}
 use Rattle.truth.specs.OneLine.{LineReady, LineRow, PathReady, PathRow}
-use Rattle.truth.proofs.NamedPaths.{path-by-position}
+use Rattle.truth.proofs.NamedPaths.{path-by-position, path-arguments}
 use Rattle.truth.proofs.tables.RowBits.{row-bit}
-use Rattle.truth.proofs.lines.DecodedKinds.{meant, line-meant, none-malformed, refers}
+use Rattle.truth.proofs.lines.DecodedKinds.{meant, line-meant, line-carries, none-malformed, refers}
 
 -- of the nodes 1 to n, those that pass a test
 pub nodes-passing : {n m : ℕ} → n ≡ m → {all : ℕ → Bool} → ((s : ℕ) → all s ≡ (leb s n && within 1 membersMost s)) → {row : ℕ → Bool} (f g : ℕ → Bool)
@@ -36,9 +38,9 @@ pub nodes-passing : {n m : ℕ} → n ≡ m → {all : ℕ → Bool} → ((s : �
 nodes-passing {n} {m} e {all} allIs {row} f g is same s = rw (is s, allIs s, e, same s) (and-assoc (leb s m) (within 1 membersMost s) (g s))
 
 -- a path line, with accepting and non-accepting states exchanged or not
-abbrev pathLine : Bool → ℕ → Line
-pathLine false x = SomePath x
-pathLine true x = SomePathNot x
+abbrev pathLine : Bool → PathLine → Line
+pathLine false p = SomePath p
+pathLine true p = SomePathNot p
 
 module _ {M R next back rows : List ℕ} {j : ℕ} (pre : LineReady M R next back rows j) where
   refer : (l : Line) → decoded R j ≡ Formed l → FormedLines.Formed signalsMost (automata R) (automaton R) j (meant R j l)
@@ -57,19 +59,25 @@ module _ {M R next back rows : List ℕ} {j : ℕ} (pre : LineReady M R next bac
   unfolding FormedLines.Formed
   either-above {i} {k} e = let r = refer (Either i k) e in (above (r .0), above (r .1))
 
-  path-asks : {x : ℕ} → ((1 ≤ x) × (x ≤ automata R)) × ((i : ℕ) → i < automaton R x .variables → (1 ≤ argument R j i) × (argument R j i < j))
-      → PathReady M R next back rows j x
-  path-asks {x} r = record {
-    ready = pre .ready;
-    from = r .0 .0;
-    to = r .0 .1;
-    arguments = λ i l. above (r .1 i (rw (positioned-named lent R (pre .ready .rules) x (r .0 .0) (r .0 .1) .variables) l));
-  }
+  path-asks : (p : PathLine) → ((i : ℕ) → i < variablesMost → argumentOf p i ≡ argument R j i)
+      → ((1 ≤ p .automaton) × (p .automaton ≤ automata R)) × ((i : ℕ) → i < automaton R (p .automaton) .variables → (1 ≤ argument R j i) × (argument R j i < j))
+      → PathReady M R next back rows (argumentOf p) (p .automaton)
+  path-asks p carries r =
+      let x = p .automaton in
+      let few = few-valued R (pre .ready .rules) x (r .0 .0) (r .0 .1) in
+      record {
+        ready = pre .ready;
+        from = r .0 .0;
+        to = r .0 .1;
+        arguments = λ i l.
+            let on : (1 ≤ argument R j i) × (rowWords * argument R j i ≤ length rows) = above (r .1 i (rw (positioned-named lent R (pre .ready .rules) x (r .0 .0) (r .0 .1) .variables) l)) in
+            subst (λ (n : ℕ). (1 ≤ n) × (rowWords * n ≤ length rows)) (sym (carries i (omega (arith, few)))) on;
+      }
 
-  pub path-ready : (exchanged : Bool) {x : ℕ} → decoded R j ≡ Formed (pathLine exchanged x) → PathReady M R next back rows j x
+  pub path-ready : (exchanged : Bool) (p : PathLine) → decoded R j ≡ Formed (pathLine exchanged p) → PathReady M R next back rows (argumentOf p) (p .automaton)
   unfolding FormedLines.Formed
-  path-ready false {x} e = path-asks (refer (SomePath x) e)
-  path-ready true {x} e = path-asks (refer (SomePathNot x) e)
+  path-ready false p e = path-asks p (line-carries R j (SomePath p) e) (refer (SomePath p) e)
+  path-ready true p e = path-asks p (line-carries R j (SomePathNot p) e) (refer (SomePathNot p) e)
 
   -- ---- the rows
 
@@ -112,13 +120,27 @@ module _ {M R next back rows : List ℕ} {j : ℕ} (pre : LineReady M R next bac
         rw (row-bit rows i s lo hi, row-bit rows k s lo hi)
         (let b = or-is (rowsHas rows (i - 1) s) (rowsHas rows (k - 1) s) in (b .1, b .0)))
 
-    by-name : (exchanged : Bool) {x : ℕ} → PathReady M R next back rows j x → PathRow M R rows j x exchanged row
-        → (s : ℕ) → 1 ≤ s → s ≤ nodes M → T (row s) ↔ PathFrom (kripke M) (automaton R x) (rowTruths rows) (argument R j) (good exchanged (automaton R x)) s
-    by-name exchanged {x} path p s lo hi =
-        Iff·trans (p .truth s lo hi)
-        (Iff·symm (path-by-position lent R (path .ready .rules) x (path .from) (path .to) (kripke M) (rowTruths rows) (argument R j) exchanged s))
+    by-name : (exchanged : Bool) (p : PathLine) → ((i : ℕ) → i < variablesMost → argumentOf p i ≡ argument R j i)
+        → PathReady M R next back rows (argumentOf p) (p .automaton) → PathRow M R rows (argumentOf p) (p .automaton) exchanged row
+        → (s : ℕ) → 1 ≤ s → s ≤ nodes M
+        → T (row s) ↔ PathFrom (kripke M) (automaton R (p .automaton)) (rowTruths rows) (argument R j) (good exchanged (automaton R (p .automaton))) s
+    by-name exchanged p carries path is s lo hi =
+        let x = p .automaton in
+        let few = few-valued R (path .ready .rules) x (path .from) (path .to) in
+        let named = positioned-named lent R (path .ready .rules) x (path .from) (path .to) .variables in
+        Iff·trans (is .truth s lo hi)
+        (Iff·trans (Iff·symm (path-by-position lent R (path .ready .rules) x (path .from) (path .to) (kripke M) (rowTruths rows) (argumentOf p) exchanged s))
+        (path-arguments (kripke M) (automaton R x) (rowTruths rows) (good exchanged (automaton R x)) s (argumentOf p) (argument R j)
+        (λ i l. carries i (omega (arith, l, few, named)))))
 
-    pub path-row : (exchanged : Bool) {x : ℕ} → decoded R j ≡ Formed (pathLine exchanged x) → PathRow M R rows j x exchanged row → LineRow M R rows j row
+    pub path-row : (exchanged : Bool) (p : PathLine) → decoded R j ≡ Formed (pathLine exchanged p) → PathRow M R rows (argumentOf p) (p .automaton) exchanged row
+        → LineRow M R rows j row
     unfolding Means turned
-    path-row false {x} e p = record { truth = λ s lo hi. rw (line-meant R j (SomePath x) e) (by-name false (path-ready false e) p s lo hi); clear = p .clear }
-    path-row true {x} e p = record { truth = λ s lo hi. rw (line-meant R j (SomePathNot x) e) (by-name true (path-ready true e) p s lo hi); clear = p .clear }
+    path-row false p e is = record {
+      truth = λ s lo hi. rw (line-meant R j (SomePath p) e) (by-name false p (line-carries R j (SomePath p) e) (path-ready false p e) is s lo hi);
+      clear = is .clear;
+    }
+    path-row true p e is = record {
+      truth = λ s lo hi. rw (line-meant R j (SomePathNot p) e) (by-name true p (line-carries R j (SomePathNot p) e) (path-ready true p e) is s lo hi);
+      clear = is .clear;
+    }

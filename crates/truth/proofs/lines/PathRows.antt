@@ -19,7 +19,7 @@ use Rattle.sheets.proofs.PositionedStates.{positioned-sound, positioned-first, 
 use Rattle.truth.specs.Sizes.{positionsMost, membersMost, tableRows}
 use Rattle.truth.specs.Rows.{held, rowsHas}
 use Rattle.truth.specs.Pairs.{UpTo, Transposed, Least, Greatest}
-use Rattle.truth.specs.Product.{argument, good, Allowed, GoodRows}
+use Rattle.truth.specs.Product.{good, Allowed, GoodRows}
 use Rattle.truth.specs.OneLine.{Solvable, PathReady, PathRow, nodeSet, SolvedLine}
 use Rattle.truth.proofs.structure.EdgesBack.{reaches-up}
 use Rattle.truth.proofs.lines.LineSolved.{line-solved}
@@ -70,7 +70,7 @@ module _ (M : List ℕ) (A : Automaton) (t : ℕ) (next rows : List ℕ) (arg : 
 
 -- ---- a path line of an accepted sheet
 
-module _ {M R next back rows : List ℕ} {j x : ℕ} (path : PathReady M R next back rows j x) where
+module _ {M R next back rows : List ℕ} {arg : ℕ → ℕ} {x : ℕ} (path : PathReady M R next back rows arg x) where
   pub path-sound : Sound (positioned R x) (stateCount R x)
   path-sound = positioned-sound lent R (path .ready .rules) x (path .from) (path .to)
 
@@ -82,7 +82,7 @@ module _ {M R next back rows : List ℕ} {j x : ℕ} (path : PathReady M R next 
   some-state = let b = path-sound .begins in omega (arith, b .0, b .1)
 
   -- its automaton as the code has it
-  pub solvable : (a : ByPosition) → Tabled (positioned R x) (stateCount R x) (stateOf R x) a → Solvable M next back rows (argument R j) a
+  pub solvable : (a : ByPosition) → Tabled (positioned R x) (stateCount R x) (stateOf R x) a → Solvable M next back rows arg a
   solvable a is = record {
     predecessors = path .ready .predecessors;
     few = rw (is .count) states-few;
@@ -91,11 +91,11 @@ module _ {M R next back rows : List ℕ} {j x : ℕ} (path : PathReady M R next 
   }
 
   pub path-row-of : {exchanged : Bool} {allow xs ys times : List ℕ}
-      → SolvedLine M (positioned R x) (stateCount R x) next rows (argument R j) exchanged allow xs ys times
-      → {low high : ℕ} → low ≡ getD ys 0 0 → high ≡ getD ys 1 0 → PathRow M R rows j x exchanged (held low high)
+      → SolvedLine M (positioned R x) (stateCount R x) next rows arg exchanged allow xs ys times
+      → {low high : ℕ} → low ≡ getD ys 0 0 → high ≡ getD ys 1 0 → PathRow M R rows arg x exchanged (held low high)
   path-row-of {exchanged} {allow} {xs} {ys} {times} solved el eh = record {
     truth = λ s lo hi. rw (el, eh)
-        (line-solved M (path .ready .machine) (positioned R x) (stateCount R x) path-sound (positioned-first R x) rows (argument R j) exchanged allow next
+        (line-solved M (path .ready .machine) (positioned R x) (stateCount R x) path-sound (positioned-first R x) rows arg exchanged allow next
         (solved .allowed) (path .ready .successors) s lo hi (solved .goods) xs ys times (solved .goodRows) (solved .greatest) (solved .least));
-    clear = λ s l. rw (el, eh) (clear-at M (positioned R x) (stateCount R x) next rows (argument R j) exchanged allow xs ys times solved states-few some-state s l);
+    clear = λ s l. rw (el, eh) (clear-at M (positioned R x) (stateCount R x) next rows arg exchanged allow xs ys times solved states-few some-state s l);
   }

@@ -14,7 +14,7 @@ use Rattle.sheets.specs.Machine.{nodes, kripke, machineRefusal}
 use Rattle.sheets.specs.Rules.{lent, lines, automata, automaton, line, lineOf, lineWord, ruleRefusal}
 use Rattle.sheets.proofs.Search.{within-at, le-or-gt}
 use Rattle.sheets.proofs.AcceptedMachine.{edge-stays}
-use Rattle.sheets.proofs.FormedLines.{Formed, formed, over-sixteen}
+use Rattle.sheets.proofs.FormedLines.{Formed, formed, over-most}
 use Rattle.sheets.specs.Format.{signalsMost}
 use Rattle.truth.specs.Truth.{Truths, SomePath, Means, TrueAt}
 use Rattle.truth.specs.Labelling.{rowBit, rowTruths, RowsTo}
@@ -22,7 +22,7 @@ use Rattle.truth.specs.Lists.{Lasso}
 use Rattle.truth.specs.Product.{argument, turned, good}
 use Rattle.truth.specs.Path.{Shows}
 use Rattle.truth.specs.OneLine.{Holds}
-use Rattle.truth.proofs.NamedPaths.{path-by-position}
+use Rattle.truth.proofs.NamedPaths.{path-by-position, path-arguments}
 use Rattle.truth.proofs.labelling.LineTruths.{line-true}
 use Rattle.truth.proofs.path.SameLists.{lasso-truths}
 
@@ -39,7 +39,7 @@ operated op t =
     ⊎-elim (λ l. let e : op ≡ 3 = omega arith in rw e refl) (λ l. let e : op ≡ 4 = omega arith in rw e refl) (le-or-gt op 3)
 
 module _ (R : List ℕ) (j : ℕ) where
-  abbrev auto : ℕ
+  abbrev pub auto : ℕ
   auto = lineWord lent R j 1
 
   means-path : (exchanged : Bool) (K : Kripke) (above : Truths) (s : ℕ)
@@ -70,18 +70,21 @@ module _ (M R : List ℕ) (machine : machineRefusal M ≡ 0) (rules : ruleRefusa
   line-is = ap (lineOf lent R j) kind
 
   pub path-refers : ((1 ≤ auto R j) × (auto R j ≤ automata R)) × ((i : ℕ) → i < automaton R (auto R j) .variables → (1 ≤ argument R j i) × (argument R j i < j))
-  path-refers = refers-path R j exchanged (rw line-is at (formed lent R rules signalsMost (over-sixteen lent R rules) j lo hi))
+  path-refers = refers-path R j exchanged (rw line-is at (formed lent R rules signalsMost (over-most lent R rules) j lo hi))
 
-  module _ (before rows : List ℕ) (written : RowsTo M R (j - 1) before rows) where
+  -- with the lines of its variables as the code has them
+  module _ (before rows : List ℕ) (written : RowsTo M R (j - 1) before rows) (arg : ℕ → ℕ)
+      (same : (i : ℕ) → i < automaton R (auto R j) .variables → arg i ≡ argument R j i) where
     -- the path exists by the bits of the rows where the line is true
-    pub holds-true : (s : ℕ) → 1 ≤ s → s ≤ nodes M → Holds M R rows j (auto R j) exchanged s ↔ TrueAt lent M R j s
+    pub holds-true : (s : ℕ) → 1 ≤ s → s ≤ nodes M → Holds M R rows arg (auto R j) exchanged s ↔ TrueAt lent M R j s
     holds-true s l h =
-        Iff·trans (Iff·symm (path-by-position lent R rules (auto R j) (path-refers .0 .0) (path-refers .0 .1) (kripke M) (rowTruths rows) (argument R j) exchanged s))
+        Iff·trans (Iff·symm (path-by-position lent R rules (auto R j) (path-refers .0 .0) (path-refers .0 .1) (kripke M) (rowTruths rows) arg exchanged s))
+        (Iff·trans (path-arguments (kripke M) (automaton R (auto R j)) (rowTruths rows) (good exchanged (automaton R (auto R j))) s arg (argument R j) same)
         (Iff·trans (Iff·symm (means-path R j exchanged (kripke M) (rowTruths rows) s))
-        (rw line-is at (line-true M R machine rules (rowBit rows) j lo hi (λ i s a b l h. written .truth i s a (omega arith) l h) s l h)))
+        (rw line-is at (line-true M R machine rules (rowBit rows) j lo hi (λ i s a b l h. written .truth i s a (omega arith) l h) s l h))))
 
     module _ (s : ℕ) (l : 1 ≤ s) (h : s ≤ nodes M) (node state : ℕ → ℕ) (len back : ℕ)
-        (list : Lasso (kripke M) (automaton R (auto R j)) (rowTruths rows) (argument R j) (good exchanged (automaton R (auto R j))) s node state len back) where
+        (list : Lasso (kripke M) (automaton R (auto R j)) (rowTruths rows) arg (good exchanged (automaton R (auto R j))) s node state len back) where
       list-node : (i : ℕ) → 1 ≤ i → i ≤ len → (1 ≤ node i) × (node i ≤ nodes M)
       list-node =
           le-ind (λ i. i ≤ len → (1 ≤ node i) × (node i ≤ nodes M)) (λ b. rw (list .starts) (l, h))
@@ -92,8 +95,8 @@ module _ (M R : List ℕ) (machine : machineRefusal M ≡ 0) (rules : ruleRefusa
       list-true =
           rw line-is
           (shows-path R j exchanged (kripke M) (TrueAt lent M R) s node state len back
-          (lasso-truths (kripke M) (automaton R (auto R j)) (argument R j) (good exchanged (automaton R (auto R j))) s len back (rowTruths rows) (TrueAt lent M R) node state
+          (lasso-truths (kripke M) (automaton R (auto R j)) arg (good exchanged (automaton R (auto R j))) s len back (rowTruths rows) (TrueAt lent M R) (argument R j) node state
           (λ i k a b c.
           let on = list-node i a b in
           let above = path-refers .1 k c in
-          written .truth (argument R j k) (node i) (above .0) (omega (arith, above .1)) (on .0) (on .1)) list))
+          rw (same k c) (written .truth (argument R j k) (node i) (above .0) (omega (arith, above .1)) (on .0) (on .1))) list))

@@ -10,10 +10,10 @@ use Rattle.truth.specs.Truth.{Truths, Valuation}
 use Rattle.truth.specs.Lists.{AutomatonStep, Lasso}
 
 -- a step, by other truths of the arguments
-step-truths : (A : Automaton) (above above′ : Truths) (arg : ℕ → ℕ) (s q q′ : ℕ) → ((k : ℕ) → k < A .variables → above (arg k) s ↔ above′ (arg k) s)
-    → AutomatonStep A above arg s q q′ → AutomatonStep A above′ arg s q q′
+step-truths : (A : Automaton) (above above′ : Truths) (arg arg′ : ℕ → ℕ) (s q q′ : ℕ) → ((k : ℕ) → k < A .variables → above (arg k) s ↔ above′ (arg′ k) s)
+    → AutomatonStep A above arg s q q′ → AutomatonStep A above′ arg′ s q q′
 unfolding Valuation
-step-truths A above above′ arg s q q′ agree st =
+step-truths A above above′ arg arg′ s q q′ agree st =
     record { valuation = st .valuation; values = (st .values .0, λ k l. Iff·trans (st .values .1 k l) (agree k l)); goes = st .goes }
 
 module _ (K : Kripke) (A : Automaton) (arg : ℕ → ℕ) (good : ℕ → Bool) (s len back : ℕ) where
@@ -42,11 +42,11 @@ module _ (K : Kripke) (A : Automaton) (arg : ℕ → ℕ) (good : ℕ → Bool) 
             (sym (sameState i lo (omega arith)) ∙ e′ ∙ sameState k (omega arith) hi);
       }
 
-  -- the same truths of the arguments
-  pub lasso-truths : (above above′ : Truths) (node state : ℕ → ℕ)
-      → ((i k : ℕ) → 1 ≤ i → i ≤ len → k < A .variables → above (arg k) (node i) ↔ above′ (arg k) (node i))
-      → Lasso K A above arg good s node state len back → Lasso K A above′ arg good s node state len back
-  lasso-truths above above′ node state agree l =
+  -- the same truths of the arguments, which may be other lines
+  pub lasso-truths : (above above′ : Truths) (arg′ : ℕ → ℕ) (node state : ℕ → ℕ)
+      → ((i k : ℕ) → 1 ≤ i → i ≤ len → k < A .variables → above (arg k) (node i) ↔ above′ (arg′ k) (node i))
+      → Lasso K A above arg good s node state len back → Lasso K A above′ arg′ good s node state len back
+  lasso-truths above above′ arg′ node state agree l =
       let f = l .back-from in
       let t = l .back-to in
       record {
@@ -55,9 +55,9 @@ module _ (K : Kripke) (A : Automaton) (arg : ℕ → ℕ) (good : ℕ → Bool) 
         starts = l .starts;
         begins = l .begins;
         moves = l .moves;
-        steps = λ i lo hi. step-truths A above above′ arg (node i) (state i) (state (suc i)) (λ k. agree i k lo (omega arith)) (l .steps i lo hi);
+        steps = λ i lo hi. step-truths A above above′ arg arg′ (node i) (state i) (state (suc i)) (λ k. agree i k lo (omega arith)) (l .steps i lo hi);
         moves-back = l .moves-back;
-        steps-back = step-truths A above above′ arg (node len) (state len) (state back) (λ k. agree len k (omega arith) (omega arith)) (l .steps-back);
+        steps-back = step-truths A above above′ arg arg′ (node len) (state len) (state back) (λ k. agree len k (omega arith) (omega arith)) (l .steps-back);
         recurs = l .recurs;
         once = l .once;
       }

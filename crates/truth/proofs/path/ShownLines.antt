@@ -19,7 +19,7 @@ use Rattle.sheets.specs.Format.{nodesMost}
 use Rattle.truth.specs.Sizes.{positionsMost, pairsMost}
 use Rattle.truth.specs.Rows.{held}
 use Rattle.truth.specs.Labelling.{rowTruths}
-use Rattle.truth.specs.Product.{argument, good}
+use Rattle.truth.specs.Product.{good}
 use Rattle.truth.specs.Pairs.{Timed}
 use Rattle.truth.specs.Lists.{Lasso}
 use Rattle.truth.specs.OneLine.{PathReady, Holds, SolvedLine}
@@ -32,13 +32,13 @@ use Rattle.truth.proofs.lines.LineSolved.{lasso}
 use Rattle.truth.proofs.path.SameLists.{lasso-same}
 
 -- solved tables of a path line, and a node; the row at the initial position is that of two words, and b says whether it has the node
-module _ {M R next back rows : List ℕ} {j x : ℕ} (path : PathReady M R next back rows j x) {exchanged : Bool} {allow xs ys times : List ℕ}
-    (solved : SolvedLine M (positioned R x) (stateCount R x) next rows (argument R j) exchanged allow xs ys times) (s : ℕ) (lo : 1 ≤ s) (hi : s ≤ nodes M)
+module _ {M R next back rows : List ℕ} {arg : ℕ → ℕ} {x : ℕ} (path : PathReady M R next back rows arg x) {exchanged : Bool} {allow xs ys times : List ℕ}
+    (solved : SolvedLine M (positioned R x) (stateCount R x) next rows arg exchanged allow xs ys times) (s : ℕ) (lo : 1 ≤ s) (hi : s ≤ nodes M)
     {low high : ℕ} (el : low ≡ getD ys 0 0) (eh : high ≡ getD ys 1 0) {b : Bool} (eb : b ≡ held low high s) where
-  has-holds : T b ↔ Holds M R rows j x exchanged s
+  has-holds : T b ↔ Holds M R rows arg x exchanged s
   has-holds = rw eb (path-row-of path solved el eh .truth s lo hi)
 
-  pub none-shown : not b ≡ true → (list names : List ℕ) → ShowsLine M R rows j x exchanged s list names NoPath
+  pub none-shown : not b ≡ true → (list names : List ℕ) → ShowsLine M R rows arg x exchanged s list names NoPath
   unfolding ShowsLine
   none-shown n list names h = subst T (not-true b n) (has-holds .1 h)
 
@@ -58,8 +58,8 @@ module _ {M R next back rows : List ℕ} {j x : ℕ} (path : PathReady M R next 
       few = few;
       nodes = few-nodes;
       some = rw counts (some-state path);
-      allow-up = rw counted (allow-up M (positioned R x) (stateCount R x) next rows (argument R j) exchanged allow xs ys times solved);
-      xs-up = rw (counted, counts) (lasting-up M (positioned R x) (stateCount R x) next rows (argument R j) exchanged allow xs ys times solved);
+      allow-up = rw counted (allow-up M (positioned R x) (stateCount R x) next rows arg exchanged allow xs ys times solved);
+      xs-up = rw (counted, counts) (lasting-up M (positioned R x) (stateCount R x) next rows arg exchanged allow xs ys times solved);
       lasts = rw counts (solved .greatest .lasts);
       least = rw counts (solved .least);
       timed = timed;
@@ -75,21 +75,21 @@ module _ {M R next back rows : List ℕ} {j x : ℕ} (path : PathReady M R next 
       )
 
       -- by position
-      positions-shown : Lasso (kripke M) (positioned R x) (rowTruths rows) (argument R j) (good exchanged (positioned R x)) s (placed list) (λ i. placed positions i + 1) len turn
+      positions-shown : Lasso (kripke M) (positioned R x) (rowTruths rows) arg (good exchanged (positioned R x)) s (placed list) (λ i. placed positions i + 1) len turn
       positions-shown =
-          lasso M (path .ready .machine) (positioned R x) (stateCount R x) (path-sound path) (positioned-first R x) rows (argument R j) exchanged allow next
+          lasso M (path .ready .machine) (positioned R x) (stateCount R x) (path-sound path) (positioned-first R x) rows arg exchanged allow next
           (solved .allowed) (path .ready .successors) s lo hi (placed list) (placed positions) len turn (solved .goods) xs (solved .goodRows) (solved .greatest .fewer)
           (rw (counted, counts) at walk)
 
       pub shows-line : (numbers names : List ℕ) → ((k : ℕ) → k < stateCount R x → getD numbers k 0 ≡ stateOf R x (k + 1))
-          → ((i : ℕ) → i < len → getD names i 0 ≡ getD numbers (getD positions i 0) 0) → ShowsLine M R rows j x exchanged s list names (Path len turn)
+          → ((i : ℕ) → i < len → getD names i 0 ≡ getD numbers (getD positions i 0) 0) → ShowsLine M R rows arg x exchanged s list names (Path len turn)
       unfolding ShowsLine
       shows-line numbers names numbersIs namesIs = (
         has-holds .0 had,
-        lasso-same (kripke M) (automaton R x) (argument R j) (good exchanged (automaton R x)) s len turn (rowTruths rows) (placed list)
+        lasso-same (kripke M) (automaton R x) arg (good exchanged (automaton R x)) s len turn (rowTruths rows) (placed list)
             (λ i. stateOf R x (placed positions i + 1)) (placed list) (placed names) (λ i l h. refl)
             (λ i l h. namesIs (i - 1) (omega arith) ∙ numbersIs (placed positions i) (omega (arith, below i l h, counts)))
-            (lasso-named (positioned-named lent R (path .ready .rules) x (path .from) (path .to)) (kripke M) (rowTruths rows) (argument R j)
+            (lasso-named (positioned-named lent R (path .ready .rules) x (path .from) (path .to)) (kripke M) (rowTruths rows) arg
             (good exchanged (automaton R x)) (good exchanged (positioned R x)) (good-named lent R (path .ready .rules) x (path .from) (path .to) exchanged) s
             (placed list) (λ i. placed positions i + 1) len turn (λ i l h. (omega arith, omega (arith, below i l h, counts))) positions-shown),
         rw (← counted, ← counts) (walk .fits),

@@ -35,11 +35,10 @@ loop-less c = let in-loop : tie.In-loop Inv-loop μ-loop = search in omega (arit
 
 loop-again : tie.Need-loop-again Inv-loop μ-loop
 loop-again c =
-    let in-loop : tie.In-loop Inv-loop μ-loop = search in
-    (
-  omega (arith, in-loop .loop-test .taken),
-  signals-more _ _ _ _ _ (in-loop .before .loop .inv .1) (c .by-signal .ensures),
-)
+    let in-loop : tie.In-loop Inv-loop μ-loop = search in (
+      omega (arith, in-loop .loop-test .taken),
+      signals-more _ _ _ _ _ (in-loop .before .loop .inv .1) (c .by-signal .ensures),
+    )
 
 returns : tie.Need-returns Inv-loop μ-loop
 returns c =

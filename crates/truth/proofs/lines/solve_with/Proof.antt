@@ -8,7 +8,7 @@ use lib.Dec.{leb}
 use Rattle.sheets.specs.Words.{within}
 use Rattle.truth.specs.Sizes.{membersMost, cell, setWords}
 use Rattle.truth.specs.Rows.{rowHas}
-use Rattle.truth.specs.Product.{argument}
+use Rattle.truth.specs.Product.{lineAt}
 use Rattle.truth.proofs.tables.TableLaws.{zero-row}
 use Rattle.truth.proofs.tables.LinkedSets.{linked-none}
 use Rattle.truth.proofs.lines.PathRows.{solved-line}
@@ -17,7 +17,7 @@ use Rattle.truth.proofs.lines.solve_with.Tie as tie
 
 -- the start, from where the nodes' row is made and from where the table is made
 abbrev row-start : tie.After-node-row → tie.Start
-row-start c = c .before .before .before .before .before .before
+row-start c = c .before .before .before .before .before
 
 abbrev allow-row : tie.After-allow-table → tie.After-node-row
 allow-row c = c .before .before .before .before .before .before
@@ -72,7 +72,7 @@ returns c A t name is =
     let row = allow-row allowed in
     let start = row-start row in
     let a = start .args in
-    solved-line (a .m .now) A t (a .next .now) (a .rows .now) (argument (a .r .now) (a .j)) (a .exchanged) (a .back .now) (start .pre .0 .predecessors) _ (is .count)
+    solved-line (a .m .now) A t (a .next .now) (a .rows .now) (lineAt (a .lines)) (a .exchanged) (a .back .now) (start .pre .0 .predecessors) _ (is .count)
     (rowHas (row .node-row .result)) (λ s. row .node-row .ensures s ∙ ap (λ (n : ℕ). leb s n && within 1 membersMost s) (row .before .nodes .ensures)) _ _ _ _ _
     (allowed .allow-table .ensures .0 A (is .variables) (λ p q w l h. is .goes p q w (omega (arith, l, is .count)) (omega (arith, h, is .count))))
     (made .good-table .ensures A (λ p l. is .accepting p (omega (arith, l, is .count)))) (trimmed .trim .ensures) (grown .grow .ensures)

@@ -52,11 +52,11 @@ label-lines-requires c κs =
     let fit = rows-fit _ (rules accepted) in
     (machine accepted, (rules accepted, (omega arith, omega arith)))
 
-line-word-requires : tie.Need-line-word-requires
-line-word-requires c κs = search needs
+path-line-requires : tie.Need-path-line-requires
+path-line-requires c κs = search needs
 
-line-word-requires-2 : tie.Need-line-word-requires-2
-line-word-requires-2 c κs = search needs
+operation-requires : tie.Need-operation-requires
+operation-requires c κs = search needs
 
 slice-aggregate-show-line : tie.Need-slice-aggregate-show-line
 slice-aggregate-show-line c = search needs
@@ -68,7 +68,7 @@ show-line-requires c κs =
     let accepted = labelled .before .before .before in
     let a = accepted .before .before .before .before .args in
     show-ready (a .m .now) (a .r .now) (a .line) (a .node) (a .room) _ (accepted .before .path-refusal .ensures) (accepted .if1 .left) _ (labelled .before .before .asked .ensures)
-    _ _ (labelled .label-lines .ensures) _ _ (worded .before .line-word .ensures) (worded .line-word2 .ensures) true (eq-eqb _ _ (c .before .if2 .taken))
+    _ _ (labelled .label-lines .ensures) _ _ (worded .before .path-line .ensures) (worded .operation .ensures) true (eq-eqb _ _ (c .before .if2 .taken))
     (labelled .label-lines .ensures .size)
 
 returns-2 : tie.Need-returns-2
@@ -78,7 +78,7 @@ returns-2 c =
     let accepted = labelled .before .before .before in
     let a = accepted .before .before .before .before .args in
     shown (a .m .now) (a .r .now) (a .line) (a .node) (a .room) _ (accepted .before .path-refusal .ensures) (accepted .if1 .left) _ (labelled .before .before .asked .ensures)
-    _ _ (labelled .label-lines .ensures) _ _ (worded .before .line-word .ensures) (worded .line-word2 .ensures) true (eq-eqb _ _ (c .before .before .if2 .taken))
+    _ _ (labelled .label-lines .ensures) _ _ (worded .before .path-line .ensures) (worded .operation .ensures) true (eq-eqb _ _ (c .before .before .if2 .taken))
     _ _ _ (c .show-line .ensures)
 
 slice-aggregate-show-line-2 : tie.Need-slice-aggregate-show-line-2
@@ -91,7 +91,7 @@ show-line-requires-2 c κs =
     let accepted = labelled .before .before .before in
     let a = accepted .before .before .before .before .args in
     show-ready (a .m .now) (a .r .now) (a .line) (a .node) (a .room) _ (accepted .before .path-refusal .ensures) (accepted .if1 .left) _ (labelled .before .before .asked .ensures)
-    _ _ (labelled .label-lines .ensures) _ _ (worded .before .line-word .ensures) (worded .line-word2 .ensures) false (ne-eqb _ _ (c .before .if2 .left))
+    _ _ (labelled .label-lines .ensures) _ _ (worded .before .path-line .ensures) (worded .operation .ensures) false (ne-eqb _ _ (c .before .if2 .left))
     (labelled .label-lines .ensures .size)
 
 returns-3 : tie.Need-returns-3
@@ -101,7 +101,7 @@ returns-3 c =
     let accepted = labelled .before .before .before in
     let a = accepted .before .before .before .before .args in
     shown (a .m .now) (a .r .now) (a .line) (a .node) (a .room) _ (accepted .before .path-refusal .ensures) (accepted .if1 .left) _ (labelled .before .before .asked .ensures)
-    _ _ (labelled .label-lines .ensures) _ _ (worded .before .line-word .ensures) (worded .line-word2 .ensures) false (ne-eqb _ _ (c .before .before .if2 .left))
+    _ _ (labelled .label-lines .ensures) _ _ (worded .before .path-line .ensures) (worded .operation .ensures) false (ne-eqb _ _ (c .before .before .if2 .left))
     _ _ _ (c .show-line2 .ensures)
 
 pub make-spec : {M : Type 1} → statement M
@@ -115,8 +115,8 @@ make-spec =
     slice-aggregate-label-lines
     sub-label-lines
     label-lines-requires
-    line-word-requires
-    line-word-requires-2
+    path-line-requires
+    operation-requires
     slice-aggregate-show-line
     show-line-requires
     returns-2

@@ -53,8 +53,8 @@ returns-2 c =
     no-node _ _ _ _ _ _ _ 0 _ _ true (first .before .before .asked .ensures) (first .before .lines .ensures) (first .within .ensures)
     (c .before .before .before .if1 .left) (c .before .before .nodes .ensures) (c .before .within2 .ensures) (c .if2 .taken)
 
-line-word-requires : tie.Need-line-word-requires
-line-word-requires c κs = search needs
+operation-requires : tie.Need-operation-requires
+operation-requires c κs = search needs
 
 within-requires-3 : tie.Need-within-requires-3
 within-requires-3 c κs = search needs
@@ -65,7 +65,7 @@ returns-3 c =
     let first = second .before .before .before in
     last-test _ _ _ _ _ _ _ _ _ _ _ (first .before .before .asked .ensures) (first .before .lines .ensures) (first .within .ensures)
     (second .before .before .if1 .left) (second .before .nodes .ensures) (second .within2 .ensures) (c .before .before .if2 .left)
-    (c .before .line-word .ensures) (c .within3 .ensures)
+    (c .before .operation .ensures) (c .within3 .ensures)
 
 pub q18-spec : {M : Type 1} → statement M
 q18-spec =
@@ -78,6 +78,6 @@ q18-spec =
     nodes-requires
     within-requires-2
     returns-2
-    line-word-requires
+    operation-requires
     within-requires-3
     returns-3)

@@ -1,5 +1,5 @@
 -- `q19` meets its contract. Both factors are below 2 ^ 16, so that the product does not wrap.
-use mathlib.Core.Path.{_≡_, refl}
+use mathlib.Core.Path.{_≡_, refl, ap}
 use Prim.Native.Nat.{ℕ, _*_, _≤_, _<_}
 use native.Mathlib.Omega.{arith}
 use native.Mathlib.Nat.{mul-le-mul-left}
@@ -7,6 +7,8 @@ use mathlib.Core.List.{List}
 use lib.Dec.{leb}
 use Rattle.sheets.specs.Machine.{nodes}
 use Rattle.sheets.specs.Rules.{lent, lineWord}
+use Rattle.sheets.specs.Lines.{pathLine}
+use Rattle.sheets.specs.declared.lines.PathLine.{PathLine}
 use Rattle.sheets.specs.Positioned.{stateCount}
 use Rattle.truth.specs.Path.{asked, q19}
 use borrow.Author.Needs.{needs}
@@ -24,8 +26,8 @@ small n t a b = mul-le-mul-left n (omega arith)
 asked-requires : tie.Need-asked-requires
 asked-requires c κs = search needs
 
-line-word-requires : tie.Need-line-word-requires
-line-word-requires c κs = search needs
+path-line-requires : tie.Need-path-line-requires
+path-line-requires c κs = search needs
 
 nodes-requires : tie.Need-nodes-requires
 nodes-requires c κs = search needs
@@ -43,8 +45,9 @@ mul-result : tie.Need-mul-result
 mul-result c = let h = small (c .before .nodes .result) (c .state-count .result) (search needs) (search needs) in omega arith
 
 returns : tie.Need-returns
+unfolding pathLine
 returns c =
-    room-test _ _ _ _ _ _ _ _ (c .before .before .before .asked .ensures) (c .before .before .line-word .ensures) (c .before .nodes .ensures)
+    room-test _ _ _ _ _ _ _ _ (c .before .before .before .asked .ensures) (ap (λ (p : PathLine). p .automaton) (c .before .before .path-line .ensures)) (c .before .nodes .ensures)
     (c .state-count .ensures)
 
 pub q19-spec : {M : Type 1} → statement M
@@ -52,7 +55,7 @@ q19-spec =
     tie.close
     (tie.spec
     asked-requires
-    line-word-requires
+    path-line-requires
     nodes-requires
     cast-n
     state-count-requires

@@ -1,13 +1,15 @@
 -- `show` meets its contract: the solved line's row says whether there is a path; where there is, the solved tables can be traced, and the
 -- trail, its positions named, is the list.
 use borrow.Author.Needs.{needs}
-use mathlib.Core.Path.{_≡_}
+use mathlib.Core.Path.{_≡_, subst}
+use Prim.Native.Nat.{ℕ}
+use mathlib.Core.List.{List}
 use native.Mathlib.Omega.{arith}
 use lib.ListN.{length}
 use Rattle.sheets.specs.Positioned.{stateCount, stateOf, positioned}
 use Rattle.truth.specs.Sizes.{pairsMost}
 use Rattle.truth.specs.Pairs.{Timed}
-use Rattle.truth.specs.Product.{argument}
+use Rattle.truth.specs.Product.{lineAt, argumentOf}
 use Rattle.truth.specs.OneLine.{SolvedLine}
 use Rattle.truth.proofs.lines.PathRows.{states-few, solvable}
 use Rattle.truth.proofs.path.ShownLines.{none-shown, traceable, list-fits, shows-line}
@@ -20,20 +22,23 @@ abbrev solved-at : tie.After-has → tie.After-solve
 solved-at c = c .before .before .before .before
 
 abbrev tabled-at : tie.After-has → tie.After-by-position
-tabled-at c = solved-at c .before .before
+tabled-at c = solved-at c .before .before .before
 
 abbrev start : tie.After-by-position → tie.Start
 start c = c .before .before .before .before
 
 -- the tables are solved
 line : (c : tie.After-has)
-    → SolvedLine (start (tabled-at c) .args .m .now) (positioned (start (tabled-at c) .args .r .now) (start (tabled-at c) .args .x))
-    (stateCount (start (tabled-at c) .args .r .now) (start (tabled-at c) .args .x)) (start (tabled-at c) .args .next .now) (start (tabled-at c) .args .rows .now)
-    (argument (start (tabled-at c) .args .r .now) (start (tabled-at c) .args .j)) (start (tabled-at c) .args .exchanged)
+    → SolvedLine (start (tabled-at c) .args .m .now) (positioned (start (tabled-at c) .args .r .now) (start (tabled-at c) .args .p .automaton))
+    (stateCount (start (tabled-at c) .args .r .now) (start (tabled-at c) .args .p .automaton)) (start (tabled-at c) .args .next .now) (start (tabled-at c) .args .rows .now)
+    (argumentOf (start (tabled-at c) .args .p)) (start (tabled-at c) .args .exchanged)
     (solved-at c .solve .result .allow) (solved-at c .solve .result .lasting) (solved-at c .solve .result .reached) (solved-at c .solve .result .times)
 line c =
     let a = start (tabled-at c) .args in
-    solved-at c .solve .ensures (positioned (a .r .now) (a .x)) (stateCount (a .r .now) (a .x)) (stateOf (a .r .now) (a .x)) (tabled-at c .by-position .ensures)
+    subst (λ (ls : List ℕ). SolvedLine (a .m .now) (positioned (a .r .now) (a .p .automaton)) (stateCount (a .r .now) (a .p .automaton)) (a .next .now) (a .rows .now) (lineAt ls) (a .exchanged)
+    (solved-at c .solve .result .allow) (solved-at c .solve .result .lasting) (solved-at c .solve .result .reached) (solved-at c .solve .result .times))
+    (solved-at c .before .arguments .ensures)
+    (solved-at c .solve .ensures (positioned (a .r .now) (a .p .automaton)) (stateCount (a .r .now) (a .p .automaton)) (stateOf (a .r .now) (a .p .automaton)) (tabled-at c .by-position .ensures))
 
 -- there is room for every time
 timed : (c : tie.After-solve) → Timed (c .solve .result .times)
@@ -43,7 +48,12 @@ by-position-requires : tie.Need-by-position-requires
 by-position-requires c κs = states-few (c .before .before .before .pre .0)
 
 solve-requires : tie.Need-solve-requires
-solve-requires c κs = let tabled = c .before in solvable (start tabled .pre .0) (tabled .by-position .result) (tabled .by-position .ensures)
+solve-requires c κs =
+    let tabled = c .before .before in
+    rw (c .arguments .ensures) (solvable (start tabled .pre .0) (tabled .by-position .result) (tabled .by-position .ensures))
+
+arguments-requires : tie.Need-arguments-requires
+arguments-requires c κs = search needs
 
 load-requires : tie.Need-load-requires
 load-requires c κs = search needs
@@ -62,7 +72,9 @@ nodes-requires : tie.Need-nodes-requires
 nodes-requires c κs = search needs
 
 cast-trace : tie.Need-cast-trace
-cast-trace c = search needs
+cast-trace c =
+    let tabled = tabled-at (c .before .before .before .before) in
+    omega (arith, states-few (start tabled .pre .0), tabled .by-position .ensures .count)
 
 trace-requires : tie.Need-trace-requires
 trace-requires c κs =
@@ -99,6 +111,7 @@ show-spec =
     tie.close
     (tie.spec
     by-position-requires
+    arguments-requires
     solve-requires
     load-requires
     has-requires

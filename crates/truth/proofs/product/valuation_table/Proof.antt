@@ -8,7 +8,7 @@ use mathlib.Core.Bool.{Bool, _&&_}
 use Rattle.truth.specs.Sizes.{setWords}
 use Rattle.truth.specs.Rows.{rowHas}
 use Rattle.truth.specs.Pairs.{NoRow}
-use Rattle.truth.specs.Product.{agrees, argument, argumentAt}
+use Rattle.truth.specs.Product.{agrees, lineAt, argumentAt}
 use Rattle.truth.specs.declared.rows.Row.{Row}
 use Rattle.truth.proofs.product.ValuationRows.{valuations}
 use Rattle.truth.proofs.tables.TableLaws.{zero-row, Filled, filled-none, filled-more, empty-after}
@@ -16,14 +16,14 @@ use Rattle.truth.proofs.product.valuation_table.Statement.{statement}
 use Rattle.truth.proofs.product.valuation_table.Tie as tie
 
 -- whether node s has the valuation w
-abbrev Valued : List ℕ → List ℕ → Row → ℕ → ℕ → ℕ → ℕ → Bool → Type 0
-Valued r rows all j v w s b = b ≡ (rowHas all s && agrees v w (argumentAt rows (argument r j) s))
+abbrev Valued : List ℕ → Row → List ℕ → ℕ → ℕ → ℕ → Bool → Type 0
+Valued rows all lines v w s b = b ≡ (rowHas all s && agrees v w (argumentAt rows (lineAt lines) s))
 
 abbrev Inv-loop : tie.InvT-loop
-Inv-loop r rows all j v out₀ most w₀ out w = (w ≤ most) × Filled setWords (Valued r rows all j v) w out × ((i : ℕ) → w ≤ i → NoRow out i)
+Inv-loop rows all lines v out₀ most w₀ out w = (w ≤ most) × Filled setWords (Valued rows all lines v) w out × ((i : ℕ) → w ≤ i → NoRow out i)
 
 abbrev μ-loop : tie.MeasureT-loop
-μ-loop r rows all j v out₀ most w₀ out w = most - w
+μ-loop rows all lines v out₀ most w₀ out w = most - w
 
 shl-most : tie.Need-shl-most Inv-loop μ-loop
 shl-most c = omega arith
@@ -39,7 +39,7 @@ cast-store c = omega arith
 
 store-requires : tie.Need-store-requires Inv-loop μ-loop
 store-requires c κs =
-    let v = valuations (c .before .before .before .before .before .before .args .v) (omega arith) in
+    let v = valuations (c .before .before .before .before .before .args .v) (omega arith) in
     omega (arith, v .0, v .1)
 
 add-w : tie.Need-add-w Inv-loop μ-loop
@@ -50,10 +50,10 @@ loop-less c = omega arith
 
 loop-again : tie.Need-loop-again Inv-loop μ-loop
 loop-again c =
-    let a = c .before .before .before .before .before .before .before .args in
+    let a = c .before .before .before .before .before .before .args in
     let at = c .before .before .before .before .loop in
     let v = valuations (a .v) (omega arith) in
-    let valued = Valued (a .r .now) (a .rows .now) (a .all) (a .j) (a .v) in
+    let valued = Valued (a .rows .now) (a .all) (a .lines) (a .v) in
     let few : 2 * at .w + 1 < setWords = omega (arith, v .0, v .1) in (
       omega arith,
       filled-more valued (at .out) _ (at .w) _ _ (at .inv .1) few (c .store .ensures) (c .before .before .valuation-row .ensures),
@@ -62,8 +62,8 @@ loop-again c =
 
 returns : tie.Need-returns Inv-loop μ-loop
 returns c =
-    let v = valuations (c .before .before .before .before .args .v) (omega arith) in
-    let e : c .before .loop .w ≡ 2 ^ c .before .before .before .before .args .v = omega (arith, v .0, v .1) in
+    let v = valuations (c .before .before .before .args .v) (omega arith) in
+    let e : c .before .loop .w ≡ 2 ^ c .before .before .before .args .v = omega (arith, v .0, v .1) in
     let l = c .before .loop in
     (λ w h. l .inv .2 w (rw e h), λ w s h. l .inv .1 .rows w s (rw e h))
 
