@@ -23,8 +23,9 @@ use Rattle.comparison.proofs.Decides.{Decides, decides}
 use Rattle.comparison.proofs.MarkedMachines.{case-a, case-b, case-c, case-d}
 use Rattle.text.specs.declared.line.Line.{Line}
 use Rattle.input.specs.Bytes.{bytesOf}
+use Rattle.input.specs.Lines.{text}
 use Rattle.compare.specs.Program.{lineBytes, Printed}
-use Rattle.compare.proofs.PrintedLines.{text, case-a as printed-a}
+use Rattle.compare.proofs.PrintedLines.{case-a as printed-a}
 
 abbrev Answers : (M₁ M₂ : List ℕ) → Answer → Type 0
 Answers M₁ M₂ x =
@@ -61,6 +62,7 @@ pub record Marked : Type 0 where
   pub j : machineRefusal ExtraSignal ≡ 3
   pub k : percent 1 8 ≡ 13
 
+-- end result
 pub marked : Marked
 unfolding nodes signals word
 marked =

@@ -5,18 +5,17 @@ use mathlib.Core.Logic.{_↔_, by-cases}
 use Prim.Native.Nat.{ℕ, _+_, _%_, _≤_}
 use native.Mathlib.Omega.{arith}
 use native.Mathlib.Decide.{decLe, ℕ-discrete}
-use mathlib.Core.List.{List, [], _∷_, _++_}
+use mathlib.Core.List.{List, _++_}
 use mathlib.Core.Bool.{true, false}
-use lib.ListN.{length, take}
+use lib.ListN.{length}
 use Rattle.truth.specs.Passed.{M1, M2, Refusal, none as noRefusal, machineQuestions, machineRefusal, nodes, signals, word}
 use Rattle.truth.proofs.Passed.{first-has, signals-sized, machine-cases}
-use Rattle.text.specs.Lines.{Holds}
 use Rattle.text.specs.declared.line.Line.{Line}
 use Rattle.text.proofs.HeldLines.{held-text}
 use Rattle.input.specs.Limits.{machinesBytes, ruleWords}
 use Rattle.input.specs.Bytes.{readable, wordsOf, bytesOf}
 use Rattle.input.specs.Cut.{firstSheet, secondSheet}
-use Rattle.input.specs.Lines.{refusedLine}
+use Rattle.input.specs.Lines.{text, refusedLine}
 use Rattle.input.proofs.Cuts.{by-reply}
 use Rattle.input.proofs.JoinedSheets.{joined-readable, joined-first, joined-second}
 use Rattle.input.proofs.WorkedInput.{input-cases}
@@ -47,6 +46,7 @@ module _ (M₁ M₂ : List ℕ) where
       (λ many. omega (arith, last 21 (by-nodes M₁ M₂ ruleWords same (omega arith)) .0)))
       (λ other. omega (arith, last 20 (by-signals M₁ M₂ ruleWords other) .0))
 
+  -- end result
   pub never-22 : refusal M₁ M₂ .number ≡ 22 → ⊥
   unfolding refusal
   never-22 e =
@@ -58,7 +58,7 @@ module _ (M₁ M₂ : List ℕ) where
 -- ---- which answer
 
 module _ (M₁ M₂ : List ℕ) where
-  pub refused-answer : (answer : Answer) → Compared M₁ M₂ answer → 1 ≤ refusal M₁ M₂ .number
+  refused-answer : (answer : Answer) → Compared M₁ M₂ answer → 1 ≤ refusal M₁ M₂ .number
       → answer ≡ Refused (refusal M₁ M₂ .number) (refusal M₁ M₂ .sheet)
   unfolding refusalOf noRefusal
   refused-answer (Refused q i) c some = rw (← c .asked)
@@ -66,13 +66,13 @@ module _ (M₁ M₂ : List ℕ) where
   refused-answer Unequal c some = absurd (omega (arith, ap (λ (r : Refusal). r .number) (c .asked)))
 
   module _ (accepted : refusal M₁ M₂ .number ≡ 0) where
-    pub equal-answer : (answer : Answer) → Compared M₁ M₂ answer → Comparison.Equal M₁ M₂ → answer ≡ Equal
+    equal-answer : (answer : Answer) → Compared M₁ M₂ answer → Comparison.Equal M₁ M₂ → answer ≡ Equal
     unfolding refusalOf
     equal-answer (Refused q i) c same = absurd (omega (arith, ap (λ (r : Refusal). r .number) (c .asked), c .refused q i refl))
     equal-answer Equal c same = refl
     equal-answer Unequal c same = absurd (c .unequal refl same)
 
-    pub unequal-answer : (answer : Answer) → Compared M₁ M₂ answer → (Comparison.Equal M₁ M₂ → ⊥) → answer ≡ Unequal
+    unequal-answer : (answer : Answer) → Compared M₁ M₂ answer → (Comparison.Equal M₁ M₂ → ⊥) → answer ≡ Unequal
     unfolding refusalOf
     unequal-answer (Refused q i) c other = absurd (omega (arith, ap (λ (r : Refusal). r .number) (c .asked), c .refused q i refl))
     unequal-answer Equal c other = absurd (other (c .equal refl))
@@ -86,10 +86,6 @@ is-equal Equal e = refl
 is-equal Unequal e = let z : _≡_ {A = ℕ} 117 101 = cc in absurd (omega arith)
 
 -- ---- which line
-
--- the bytes of a line that are written
-abbrev pub text : Line → List ℕ
-text line = take (line .len) (line .bytes)
 
 module _ (bytes : List ℕ) where
   abbrev first : List ℕ
@@ -121,6 +117,7 @@ module _ (bytes : List ℕ) where
     said : text line ≡ lineBytes (p .answer)
     said = held-text line (lineBytes (p .answer)) (p .held)
 
+    -- end result
     pub which-line : Lines line
     unfolding lineBytes
     which-line = record {
@@ -148,10 +145,11 @@ module _ (bytes : List ℕ) where
         let none = refuses-nothing first second ruleWords (record { first = s .one; second = s .two; same = s .same; few = s .few; enough = omega arith }) in
         which-line .equal (s .taken) none (s .equal)
 
+    -- end result
     pub equal-exactly : (text line ≡ lineBytes Equal) ↔ EqualSheets
     equal-exactly = (λ e. says-equal (is-equal (p .answer) (sym said ∙ e)), equal-said)
 
--- ---- two files, each of them an accepted machine sheet, one after the other: the line of the answer to the two
+-- ---- two files, each of them an accepted machine sheet, one after the other: the line of the answer to the two; end result
 
 pub files-compared : (first second : List ℕ) → length first % 2 ≡ 0 → length second % 2 ≡ 0
     → machineRefusal (wordsOf first) ≡ 0 → machineRefusal (wordsOf second) ≡ 0

@@ -1,8 +1,7 @@
 // A page of text: bytes in a lent space, line below line, none of them too long and not too many.
-ghost use Rattle.explain.specs.Pages.{Follows, Laid};
+ghost use Rattle.explain.specs.Pages.{Follows};
 ghost use mathlib.Core.Path.{_≡_};
 ghost use Prim.Native.Nat.{_<_};
-ghost use lib.ListN.{length};
 
 // How many bytes a page has, how many a line before its end, and how many lines a page.
 pub const SIZE: usize = 4096;

@@ -1,6 +1,6 @@
 -- Two sheets one after the other are cut apart, where the first is accepted: so two files may be joined for a program.
 use mathlib.Core.Path.{_≡_, refl, sym, ap, _∙_}
-use Prim.Native.Nat.{ℕ, _+_, _*_, _/_, _%_, _<_, _≤_}
+use Prim.Native.Nat.{ℕ, _+_, _%_, _<_, _≤_}
 use native.Mathlib.Omega.{arith}
 use mathlib.Core.List.{List, [], _∷_, _++_}
 use mathlib.Core.Bool.{true, false, true≢false, _&&_}
@@ -21,7 +21,7 @@ use Rattle.input.proofs.Cuts.{end-by-header}
 use Rattle.input.proofs.WordLists.{words-length}
 
 -- the words of bytes one after the other, where the first are even in number
-pub words-joined : (first second : List ℕ) → length first % 2 ≡ 0 → wordsOf (first ++ second) ≡ wordsOf first ++ wordsOf second
+words-joined : (first second : List ℕ) → length first % 2 ≡ 0 → wordsOf (first ++ second) ≡ wordsOf first ++ wordsOf second
 unfolding wordsOf
 words-joined [] second even = refl
 words-joined (low ∷ []) second even = absurd (omega arith)
@@ -67,11 +67,11 @@ module _ (first second : List ℕ) (one : q1 first ≡ true) (two : q2 first ≡
   first-end : firstEnd (first ++ second) ≡ length first
   first-end = end-by-header (first ++ second) same-one (rw (same-end, length-append) (omega arith)) ∙ same-end
 
-  pub first-sheet : firstSheet (first ++ second) ≡ first
+  first-sheet : firstSheet (first ++ second) ≡ first
   unfolding firstSheet
   first-sheet = rw first-end (take-append-seam first second)
 
-  pub second-sheet : secondSheet (first ++ second) ≡ second
+  second-sheet : secondSheet (first ++ second) ≡ second
   unfolding secondSheet
   second-sheet = rw first-end (drop-append-seam first second)
 
@@ -87,7 +87,7 @@ module _ (M : List ℕ) (accepted : machineRefusal M ≡ 0) where
   unfolding q1
   sizes = machine-answers M accepted .one
 
-  pub longest : length M ≤ 4483
+  longest : length M ≤ 4483
   unfolding q2
   longest =
       let few = within-at 1 128 (nodes M) (let t = sizes in search (and-left, and-right, t)) in

@@ -11,6 +11,7 @@ use Rattle.input.specs.Cut.{headerEnd, firstEnd, firstSheet, secondSheet
 use Rattle.text.specs.Decimals.{digits, decimal}
 use Rattle.input.specs.Lines.{refusedLine}
 
+-- end result
 pub read-back : (words : List ℕ) → wordsOf (bytesOf words) ≡ words
 unfolding bytesOf wordsOf wordOf
 read-back [] = refl

@@ -6,28 +6,23 @@ use Prim.Native.Nat.{ℕ, _≤_}
 use native.Mathlib.Omega.{arith}
 use mathlib.Core.List.{List}
 use mathlib.Core.Bool.{true, false, true≢false}
-use lib.ListN.{length, take}
+use lib.ListN.{length}
 use Rattle.sheets.specs.Questions.{Refusal, none as noRefusal, Question, firstNo}
 use Rattle.sheets.specs.Machine.{machineRefusal}
 use Rattle.sheets.specs.Rules.{lent, ruleRefusal}
 use Rattle.sheets.specs.Answers.{refusalOf, Answered}
 use Rattle.sheets.specs.declared.checks.Check.{Check}
 use Rattle.sheets.specs.declared.checks.Check.the-variants.{Accepted, Refused}
-use Rattle.text.specs.declared.line.Line.{Line}
 use Rattle.text.proofs.HeldLines.{held-text}
 use Rattle.input.specs.Limits.{sheetsBytes}
 use Rattle.input.specs.Bytes.{readable, wordsOf}
-use Rattle.input.specs.Lines.{refusedLine}
+use Rattle.input.specs.Lines.{text, refusedLine}
 use Rattle.sheet.specs.declared.answer.Sort.{Sort}
 use Rattle.sheet.specs.declared.answer.Sort.the-variants.{Machine, Rules}
 use Rattle.sheet.specs.declared.answer.Answer.{Answer}
 use Rattle.sheet.specs.declared.answer.Answer.the-variants as Says
 use Rattle.sheet.specs.declared.answer.Told as Told·
 use Rattle.sheet.specs.Program.{questions, CheckedBytes, unreadable, words, Checked, asBytes, checkLine, lineBytes, Told}
-
--- the bytes of a line that are written
-abbrev pub text : Line → List ℕ
-text line = take (line .len) (line .bytes)
 
 -- ---- the answer of a check
 
@@ -82,21 +77,23 @@ module _ (sort : Sort) (bytes : List ℕ) where
     unfolding lineBytes
     said = held-text (told .line) (lineBytes (told .answer)) (h .held) ∙ ap lineBytes (checked .1)
 
-    pub accepted-exactly : (text (told .line) ≡ checkLine Accepted) ↔ ((readable sheetsBytes (length bytes) ≡ true) × (first .number ≡ 0))
+    accepted-exactly : (text (told .line) ≡ checkLine Accepted) ↔ ((readable sheetsBytes (length bytes) ≡ true) × (first .number ≡ 0))
     accepted-exactly = (
       λ e. taken-accepted (checked .0) (checked .2) (is-accepted (checked .0) (sym said ∙ e)),
       λ z. said ∙ ap checkLine (accepted-taken (checked .0) (checked .2) (z .0) (z .1)),
     )
 
+    -- end result
     pub refused-line : readable sheetsBytes (length bytes) ≡ true → 1 ≤ first .number → text (told .line) ≡ refusedLine (first .number) (first .sheet)
     unfolding checkLine
     refused-line ok some = said ∙ ap checkLine (refused-taken (checked .0) (checked .2) ok some)
 
+    -- end result
     pub unreadable-line : readable sheetsBytes (length bytes) ≡ false → text (told .line) ≡ refusedLine 0 0
     unfolding checkLine
     unreadable-line other = said ∙ ap checkLine (refused-untaken (checked .0) (checked .2) other)
 
--- ---- of a machine sheet and of a rule sheet
+-- ---- of a machine sheet and of a rule sheet; end results
 
 pub machine-accepted : (bytes : List ℕ) (told : Told·.Told) → Told Machine false bytes told
     → (text (told .line) ≡ checkLine Accepted) ↔ ((readable sheetsBytes (length bytes) ≡ true) × (machineRefusal (wordsOf bytes) ≡ 0))
