@@ -10,7 +10,9 @@ use lib.ListN.{length, length-append, List·getD-append}
 use lib.Seq.{take-append-seam, drop-append-seam}
 use lib.Dec.{T, leb}
 use Rattle.sheets.specs.Words.{word, within}
-use Rattle.sheets.specs.Machine.{nodes, signals, edges, q1, q2, machineRefusal}
+use Rattle.sheets.specs.Format.{plain}
+use Rattle.sheets.specs.Machine.{nodes, signals, edges, q1, machineRefusal}
+use Rattle.sheets.specs.MachineForms.{q2}
 use Rattle.sheets.proofs.Tests.{passed, and-left, and-right}
 use Rattle.sheets.proofs.Search.{le-or-gt, within-at}
 use Rattle.sheets.proofs.Questions.{machine-answers}
@@ -28,7 +30,7 @@ words-joined (low ∷ []) second even = absurd (omega arith)
 words-joined (low ∷ high ∷ first) second even = ap (_∷_ (wordOf low high)) (words-joined first second (omega arith))
 
 -- a first sheet to which questions 1 and 2 say yes, and any second
-module _ (first second : List ℕ) (one : q1 first ≡ true) (two : q2 first ≡ true) where
+module _ (first second : List ℕ) (one : q1 first ≡ true) (two : q2 plain first ≡ true) where
   short : length first < 3 → q1 first ≡ false
   unfolding q1
   short h = simp (lt-leb 3 (length first) h)
@@ -80,8 +82,8 @@ module _ (M : List ℕ) (accepted : machineRefusal M ≡ 0) where
   yes-one : q1 M ≡ true
   yes-one = passed (q1 M) (machine-answers M accepted .one)
 
-  yes-two : q2 M ≡ true
-  yes-two = passed (q2 M) (machine-answers M accepted .two)
+  yes-two : q2 plain M ≡ true
+  yes-two = passed (q2 plain M) (machine-answers M accepted .two)
 
   sizes : T (leb 3 (length M) && within 1 128 (nodes M) && within 1 16 (signals M) && within 1 2048 (edges M))
   unfolding q1

@@ -11,7 +11,7 @@ use lib.ListN.{length, getD, take, drop}
 use lib.Seq.{length-take-le, getD-take, ext-getD}
 use lib.Dec.{T, leb, eqb, ltb, leb→le}
 use Rattle.sheets.specs.Words.{bit, within, allOf, howMany, chain}
-use Rattle.sheets.specs.Rules.{most, fits, lent, automata, states, automatonWord, variables, initial, statesOf, transitionsOf, mask, transitionsFit, automatonFits, q9}
+use Rattle.sheets.specs.Rules.{most, fits, lent, automata, states, variables, initial, statesOf, transitionsOf, mask, transitionsFit, automatonFits, q9}
 use Rattle.sheets.specs.Gathered.{Listed}
 use Rattle.sheets.specs.Transitions.{Leaves}
 use Rattle.sheets.specs.declared.along.Numbers.{Numbers}
@@ -62,9 +62,8 @@ module _ (ys : List ℕ) (all : Numbers) (listed : Listed ys all) (few : all .co
       (λ i l. getD-take (all .count) (all .numbers) i 0 (omega (arith, size)) ∙ listed-at i)
 
 -- question 12 of the state at position k
-pub fits-there : (R : List ℕ) (x k v : ℕ) (all : Numbers) (out : Leaving) {small : Bool} → Listed (statesOf R x) all → all .count ≤ 16 → v ≡ automatonWord R x 0
+pub fits-there : (R : List ℕ) (x k v : ℕ) (all : Numbers) (out : Leaving) {small : Bool} → Listed (statesOf R x) all → all .count ≤ 16 → v ≡ variables R x
     → Leaves R (all .numbers) (all .count) (getD (all .numbers) k 0) out → small ≡ ltb (out .once) (2 ^ (2 ^ v)) → (out .fits && small) ≡ fitting R x (getD (statesOf R x) k 0)
-unfolding variables
 fits-there R x k v all out listed few ev leaves e =
     ap (λ b. out .fits && b) e ∙ leaves .fitting v ∙ rw (ev, listed-all (statesOf R x) all listed few, listed-at (statesOf R x) all listed few k)
 

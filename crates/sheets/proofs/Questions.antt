@@ -6,7 +6,10 @@ use mathlib.Core.List.{List, [], _∷_, _++_}
 use mathlib.Core.Bool.{Bool, true, false}
 use lib.Dec.{T}
 use Rattle.sheets.specs.Questions.{none as noRefusal, Question, ask, firstNo}
-use Rattle.sheets.specs.Machine.{machineRefusal, machineQuestions, q1, q2, q3, q4, q5, q6}
+use Rattle.sheets.specs.Format.{plain}
+use Rattle.sheets.specs.Machine.{machineRefusal, machineQuestions}
+use Rattle.sheets.specs.MachineForms.{q1, q2, q3, q4, q5, q6}
+use Rattle.sheets.specs.declared.format.NodeForm.{NodeForm}
 use Rattle.sheets.specs.Rules.{Form, ruleRefusal, ruleQuestions, q7, q8, q9, q10, q11, q12, q13, q14, q15}
 
 -- every question is answered yes (a question's number is not 0)
@@ -82,20 +85,20 @@ later-table (ask k i false ∷ qs) rs h e = absurd (omega (arith, h .0))
 
 -- ---- a machine sheet
 
-pub record MachineAnswers (M : List ℕ) : Type 0 where
+pub record MachineAnswers (F : NodeForm) (M : List ℕ) : Type 0 where
   pub one : T (q1 M)
-  pub two : T (q2 M)
-  pub three : T (q3 M)
-  pub four : T (q4 M)
-  pub five : T (q5 M)
-  pub six : T (q6 M)
+  pub two : T (q2 F M)
+  pub three : T (q3 F M)
+  pub four : T (q4 F M)
+  pub five : T (q5 F M)
+  pub six : T (q6 F M)
 
-pub machine-accepted : (M : List ℕ) → MachineAnswers M → machineRefusal M ≡ 0
-unfolding machineRefusal
+pub machine-accepted : (M : List ℕ) → MachineAnswers plain M → machineRefusal M ≡ 0
+unfolding machineRefusal machineQuestions
 machine-accepted M a = none-refuses (machineQuestions 1 M) (a .one, (a .two, (a .three, (a .four, (a .five, (a .six, tt))))))
 
-pub machine-answers : (M : List ℕ) → machineRefusal M ≡ 0 → MachineAnswers M
-unfolding machineRefusal
+pub machine-answers : (M : List ℕ) → machineRefusal M ≡ 0 → MachineAnswers plain M
+unfolding machineRefusal machineQuestions
 machine-answers M e =
     let h = all-yes (machineQuestions 1 M) e in
     record {

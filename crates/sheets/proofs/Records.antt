@@ -1,9 +1,9 @@
 -- A record of a chain as a step, and the chain from a record on.
 use mathlib.Core.Path.{_≡_, refl}
-use Prim.Native.Nat.{ℕ, zero, suc, _+_, _-_, _*_}
+use Prim.Native.Nat.{ℕ, zero, suc, _-_}
 use native.Mathlib.Omega.{arith}
 use mathlib.Core.List.{List}
-use Rattle.sheets.specs.Words.{word, chain}
+use Rattle.sheets.specs.Words.{chain}
 use Rattle.sheets.specs.Records.{recordWord, stepAt}
 use Rattle.sheets.specs.declared.words.Step.the-variants.{Record, End}
 
@@ -23,9 +23,6 @@ module _ (read : ℕ → ℕ → ℕ) (w : ℕ) where
   rest f x = chain f (λ x. read x (w - 1)) x
 
 -- a record from its words
-pub read-record : (ws : List ℕ) (base w x m l a b y : ℕ) → (x ≡ 0 → ⊥) → m ≡ x - 1 → l ≡ w - 1 → a ≡ word ws (base + w * m)
-    → b ≡ word ws (base + w * m + 1) → y ≡ word ws (base + w * m + l) → Record x a b y ≡ stepAt (recordWord ws base w) w x
-unfolding recordWord
-read-record ws base w x m l a b y n em el ea eb ey =
-    let z : base + w * m + 0 ≡ base + w * m = omega arith in
-    rw (step-record (recordWord ws base w) w x n, ← em, ← el, z, ea, eb, ey)
+pub read-record : (ws : List ℕ) (base w x l a b y : ℕ) → (x ≡ 0 → ⊥) → a ≡ recordWord ws base w x 0 → b ≡ recordWord ws base w x 1 → l ≡ w - 1
+    → y ≡ recordWord ws base w x l → Record x a b y ≡ stepAt (recordWord ws base w) w x
+read-record ws base w x l a b y n ea eb el ey = rw (step-record (recordWord ws base w) w x n, ← el, ea, eb, ey)

@@ -6,7 +6,8 @@ use native.Mathlib.Omega.{arith}
 use mathlib.Core.List.{List, [], _∷_}
 use lib.ListN.{length, getD}
 use Rattle.sheets.specs.Words.{chain}
-use Rattle.sheets.specs.Machine.{edges, edgeWord, machineRefusal, q5}
+use Rattle.sheets.specs.Machine.{edges, nextEdge, machineRefusal}
+use Rattle.sheets.specs.MachineForms.{q5}
 use Rattle.sheets.specs.Rules.{Form, states, automata, stateWord, initial, statesOf, ruleRefusal, q10}
 use Rattle.sheets.proofs.Tests.{and-right}
 use Rattle.sheets.proofs.Search.{le-or-gt, each-at}
@@ -65,10 +66,10 @@ module _ (m : ℕ) (next : ℕ → ℕ) (rising : Rising m next) where
       none (suc f) = refl
 
 -- the links of an accepted machine's edges
-pub edges-rise : (M : List ℕ) → machineRefusal M ≡ 0 → Rising (edges M) (λ x. edgeWord M x 1)
-unfolding q5
+pub edges-rise : (M : List ℕ) → machineRefusal M ≡ 0 → Rising (edges M) (nextEdge M)
+unfolding q5 nextEdge
 edges-rise M accepted x lo hi =
-    link-rises (edges M) x (edgeWord M x 1) (search (and-right, each-at (edges M) _ (machine-answers M accepted .five) x lo hi))
+    link-rises (edges M) x (nextEdge M x) (search (and-right, each-at (edges M) _ (machine-answers M accepted .five) x lo hi))
 
 -- the states of an accepted sheet's automaton stand at one position each
 module _ (F : Form) (R : List ℕ) (accepted : ruleRefusal F R ≡ 0) (x : ℕ) (lo : 1 ≤ x) (hi : x ≤ automata R) where

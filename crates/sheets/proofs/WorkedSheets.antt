@@ -2,7 +2,7 @@
 use mathlib.Core.Path.{_≡_, refl}
 use Rattle.sheets.specs.Words.{word, bit, within, each, allOf, anyOf, member, indicator, howMany, chain, link}
 use Rattle.sheets.specs.Questions.{none, firstNo}
-use Rattle.sheets.specs.Machine.{nodes, signals, edges, nodeWord, edgeWord, startFlag, target, machineQuestions, machineRefusal, q1, q2, q3, q4, q5, q6}
+use Rattle.sheets.specs.Machine.{machineQuestions, machineRefusal}
 use Rattle.sheets.specs.Rules.{fits, lent, automata, states, transitions, lines, automatonWord, stateWord, transitionWord, lineWord, variables, initial, statesOf, accepting, transitionsOf, transitionTarget, mask, leads, keep, passing, reached, walks, unmixed, distinct, transitionsFit, automatonFits, total, automatonTotal, unused, refersAbove, pathFits, lineFits, ruleQuestions, ruleRefusal, q7, q8, q9, q10, q11, q12, q13, q14, q15}
 use Rattle.sheets.specs.Worked.{M1, M2, M3, M5, M6, NextSheet, MixedSheet, PartialSheet, SelfLinked, ExtraSignal}
 
@@ -16,7 +16,7 @@ pub record MachineCases : Type 0 where
   pub case-j : machineRefusal ExtraSignal ≡ 3
 
 pub machine-cases : MachineCases
-unfolding machineRefusal machineQuestions firstNo none q1 q2 q3 q4 q5 q6 nodes signals edges nodeWord edgeWord startFlag target word bit within each link
+unfolding machineRefusal machineQuestions firstNo
 machine-cases = record { m1 = refl; m2 = refl; m3 = refl; m5 = refl; m6 = refl; case-i = refl; case-j = refl }
 
 pub record RuleCases : Type 0 where

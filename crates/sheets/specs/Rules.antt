@@ -1,13 +1,15 @@
 -- The rule sheet: automata (document 002, definitions 1 and 2) and lines, and the questions headed Rules.
 -- Every definition takes the sheet's form: its upper limits and the words of a line record. A sheet that is lent has the form
 -- `lent`; a rule of the logic, of whatever length and automaton size, has a form `lifted L`, with no upper limit.
-use Prim.Native.Nat.{ℕ, zero, suc, _+_, _-_, _*_, _^_}
+use Prim.Native.Nat.{ℕ, zero, suc, _+_, _-_, _^_}
 use mathlib.Core.List.{List, [], _∷_, _++_, map}
 use mathlib.Core.Bool.{Bool, true, false, not, _&&_, _||_}
 use lib.ListN.{length}
 use lib.Dec.{leb, ltb, eqb}
+use Rattle.sheets.specs.Format as Format
 use Rattle.sheets.specs.Structures.{Automaton, Line, signal, negation, either, somePath, somePathNot, malformed}
 use Rattle.sheets.specs.Words.{word, bit, within, each, allOf, anyOf, member, howMany, chain, link}
+use Rattle.sheets.specs.Records.{recordWord}
 use Rattle.sheets.specs.Questions.{Question, ask, firstNo}
 
 -- an upper limit of document 01, or none where it is lifted
@@ -32,7 +34,15 @@ pub record Form : Type 0 where
 
 -- the form of a sheet that is lent: `chained` limits the states of one automaton
 unfoldable pub lent : Form
-lent = record { automata = most 16; states = most 256; transitions = most 1024; lines = most 1024; variables = most 4; chained = most 16; lineWords = 6 }
+lent = record {
+  automata = most Format.automataMost;
+  states = most Format.statesMost;
+  transitions = most Format.transitionsMost;
+  lines = most Format.linesMost;
+  variables = most Format.variablesMost;
+  chained = most Format.chainedMost;
+  lineWords = Format.lineWords;
+}
 
 -- a rule of the logic: no upper limit, and line records of L words
 unfoldable pub lifted : ℕ → Form
@@ -57,51 +67,51 @@ lines R = word R 3
 
 -- word k of an automaton's, a state's, a transition's and a line's record; records count from 1
 unfoldable pub automatonWord : List ℕ → ℕ → ℕ → ℕ
-unfolding word
-automatonWord R x k = word R (4 + 2 * (x - 1) + k)
+unfolding recordWord
+automatonWord R x k = recordWord R Format.ruleHeader Format.automatonWords x k
 
 unfoldable pub stateWord : List ℕ → ℕ → ℕ → ℕ
-unfolding word automata
-stateWord R q k = word R (4 + 2 * automata R + 3 * (q - 1) + k)
+unfolding recordWord automata
+stateWord R q k = recordWord R (Format.statesFrom (automata R)) Format.stateWords q k
 
 unfoldable pub transitionWord : List ℕ → ℕ → ℕ → ℕ
-unfolding word automata states
-transitionWord R y k = word R (4 + 2 * automata R + 3 * states R + 3 * (y - 1) + k)
+unfolding recordWord automata states
+transitionWord R y k = recordWord R (Format.transitionsFrom (automata R) (states R)) Format.transitionWords y k
 
 unfoldable pub lineWord : Form → List ℕ → ℕ → ℕ → ℕ
-unfolding word automata states transitions
-lineWord F R j k = word R (4 + 2 * automata R + 3 * states R + 3 * transitions R + F .lineWords * (j - 1) + k)
+unfolding recordWord automata states transitions
+lineWord F R j k = recordWord R (Format.linesFrom (automata R) (states R) (transitions R)) (F .lineWords) j k
 
 -- an automaton: its variables, its initial state, the states on its chain
 unfoldable pub variables : List ℕ → ℕ → ℕ
 unfolding automatonWord
-variables R x = automatonWord R x 0
+variables R x = automatonWord R x Format.variablesPlace
 
 unfoldable pub initial : List ℕ → ℕ → ℕ
 unfolding automatonWord
-initial R x = automatonWord R x 1
+initial R x = automatonWord R x Format.initialPlace
 
 unfoldable pub statesOf : List ℕ → ℕ → List ℕ
 unfolding chain states stateWord initial
-statesOf R x = chain (states R) (λ q. stateWord R q 2) (initial R x)
+statesOf R x = chain (states R) (λ q. stateWord R q Format.nextStatePlace) (initial R x)
 
 -- the accepting word of state q is 1
 unfoldable pub accepting : List ℕ → ℕ → Bool
 unfolding stateWord
-accepting R q = eqb (stateWord R q 0) 1
+accepting R q = eqb (stateWord R q Format.acceptingPlace) 1
 
 -- the transitions out of a state (document 01's edges of a rule sheet), and a transition's target and mask
 unfoldable pub transitionsOf : List ℕ → ℕ → List ℕ
 unfolding chain transitions transitionWord stateWord
-transitionsOf R q = chain (transitions R) (λ y. transitionWord R y 2) (stateWord R q 1)
+transitionsOf R q = chain (transitions R) (λ y. transitionWord R y Format.nextTransitionPlace) (stateWord R q Format.firstTransitionPlace)
 
 unfoldable pub transitionTarget : List ℕ → ℕ → ℕ
 unfolding transitionWord
-transitionTarget R y = transitionWord R y 0
+transitionTarget R y = transitionWord R y Format.transitionTargetPlace
 
 unfoldable pub mask : List ℕ → ℕ → ℕ
 unfolding transitionWord
-mask R y = transitionWord R y 1
+mask R y = transitionWord R y Format.maskPlace
 
 -- the automaton of record x: at a valuation it takes the transition whose mask has it
 unfoldable pub automaton : List ℕ → ℕ → Automaton
@@ -172,13 +182,13 @@ distinct (x ∷ xs) = not (member x xs) && distinct xs
 unfoldable pub q7 : Form → List ℕ → Bool
 unfolding fits automata states transitions lines
 q7 F R =
-    leb 4 (length R) && fits (F .automata) (automata R) && fits (F .states) (states R) && fits (F .transitions) (transitions R)
+    leb Format.ruleHeader (length R) && fits (F .automata) (automata R) && fits (F .states) (states R) && fits (F .transitions) (transitions R)
     && leb 1 (lines R) && fits (F .lines) (lines R)
 
 -- "Is the length exactly 4 + 2k + 3m + 3e + 6l?"
 unfoldable pub q8 : Form → List ℕ → Bool
 unfolding automata states transitions lines
-q8 F R = eqb (length R) (4 + 2 * automata R + 3 * states R + 3 * transitions R + F .lineWords * lines R)
+q8 F R = eqb (length R) (Format.rulesLength (F .lineWords) (automata R) (states R) (transitions R) (lines R))
 
 -- "Are v and the first state (1 to m) in range?"
 unfoldable pub q9 : Form → List ℕ → Bool
@@ -189,12 +199,13 @@ q9 F R = each (automata R) (λ x. fits (F .variables) (variables R x) && within 
 unfoldable pub q10 : Form → List ℕ → Bool
 unfolding each states stateWord within transitions link
 q10 F R =
-    each (states R) (λ q. leb (stateWord R q 0) 1 && within 1 (transitions R) (stateWord R q 1) && link (states R) q (stateWord R q 2))
+    each (states R) (λ q. leb (stateWord R q Format.acceptingPlace) 1 && within 1 (transitions R) (stateWord R q Format.firstTransitionPlace)
+    && link (states R) q (stateWord R q Format.nextStatePlace))
 
 -- "The same for edges: target in 1 to m, next zero or above and at most e?"
 unfoldable pub q11 : Form → List ℕ → Bool
 unfolding each transitions within states transitionTarget link transitionWord
-q11 F R = each (transitions R) (λ y. within 1 (states R) (transitionTarget R y) && link (transitions R) y (transitionWord R y 2))
+q11 F R = each (transitions R) (λ y. within 1 (states R) (transitionTarget R y) && link (transitions R) y (transitionWord R y Format.nextTransitionPlace))
 
 -- of the transitions `ys` out of a state of the automaton with the states `all` and v variables
 unfoldable pub transitionsFit : List ℕ → ℕ → List ℕ → List ℕ → Bool
@@ -250,7 +261,7 @@ pathFits F R j =
 -- line j, by its operation: a signal number in 1 to 16, or references to lines above it; unused words are zero
 unfoldable pub lineFits : Form → List ℕ → ℕ → ℕ → Bool
 unfolding within lineWord unused refersAbove pathFits
-lineFits F R j zero = within 1 16 (lineWord F R j 1) && unused F R j 2
+lineFits F R j zero = within 1 Format.signalsMost (lineWord F R j 1) && unused F R j 2
 lineFits F R j (suc zero) = refersAbove F R j 0 1 && unused F R j 2
 lineFits F R j (suc (suc zero)) = refersAbove F R j 0 2 && unused F R j 3
 lineFits F R j (suc (suc (suc zero))) = pathFits F R j

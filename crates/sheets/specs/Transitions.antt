@@ -7,6 +7,7 @@ use mathlib.Core.Bool.{not, _&&_, _||_}
 use lib.ListN.{getD, take}
 use lib.Bits.{bitOr}
 use lib.Dec.{leb, ltb, eqb}
+use Rattle.sheets.specs.Format.{chainedMost}
 use Rattle.sheets.specs.Words.{bit, anyOf, howMany}
 use Rattle.sheets.specs.Positions.{someBelow, standsAt}
 use Rattle.sheets.specs.Rules.{transitionsOf, transitionTarget, mask, transitionsFit, leads}
@@ -23,11 +24,11 @@ pub record Left (a : Leaving) (t m : ℕ) (r : Leaving) : Type 0 where
   pub led : (k : ℕ) → bit (r .led) k ≡ (bit (a .led) k || (not (eqb m 0) && standsAt (a .states) (a .n) t k))
   pub once : r .once ≡ bitOr (a .once) m
   pub twice : (w : ℕ) → bit (r .twice) w ≡ (bit (a .twice) w || (bit (a .once) w && bit m w))
-  pub fits : r .fits ≡ (a .fits && (someBelow 16 (standsAt (a .states) (a .n) t) && not (someBelow 16 (λ k. standsAt (a .states) (a .n) t k && bit (a .met) k))))
+  pub fits : r .fits ≡ (a .fits && (someBelow chainedMost (standsAt (a .states) (a .n) t) && not (someBelow chainedMost (λ k. standsAt (a .states) (a .n) t k && bit (a .met) k))))
 
--- one transition more, where the positions are at most 16; the end changes nothing
+-- one transition more, where the positions are few enough; the end changes nothing
 abbrev pub LeavingTaken : Leaving → Step → Leaving → Type 0
-LeavingTaken a (Record number first second next) r = a .n ≤ 16 → Left a first second r
+LeavingTaken a (Record number first second next) r = a .n ≤ chainedMost → Left a first second r
 LeavingTaken a End r = r ≡ a
 
 -- What a has of the transitions out of state q, towards the first n of the states.

@@ -5,6 +5,7 @@ ghost use Prim.Native.Nat.{ℕ, _+_, _-_, _*_, _^_, _<_, _≤_};
 ghost use Rattle.sheets.specs.Questions.{ask, firstNo};
 ghost use Rattle.sheets.specs.Rules as Rules;
 ghost use Rattle.sheets.specs.Lines as Lines;
+use crate::format;
 use crate::rules;
 use crate::words;
 
@@ -27,11 +28,11 @@ pub enum Decoded {
 fn unused(r: &[u16], j: u16, c: u16) -> bool
     ensures { λ b. ⌜ b ≡ Rules.unused Rules.lent (now (r .entry)) j c ⌝ }
 {
-    if c > 6 {
+    if c > format::LINE_WORDS {
         return false;
     }
     let mut k = c;
-    while k < 6 {
+    while k < format::LINE_WORDS {
         if rules::line_word(r, j, k) != 0 {
             return false;
         }
@@ -63,7 +64,7 @@ fn refers_above(r: &[u16], j: u16, c: u16, n: u16) -> bool
 fn signal_fits(r: &[u16], j: u16) -> bool
     ensures { λ b. ⌜ b ≡ Rules.lineFits Rules.lent (now (r .entry)) j 0 ⌝ }
 {
-    words::within(1, 16, rules::line_word(r, j, 1)) && unused(r, j, 2)
+    words::within(1, format::SIGNALS_MOST, rules::line_word(r, j, 1)) && unused(r, j, 2)
 }
 
 // Question 15 of the words after the operation of a "not".
@@ -88,8 +89,8 @@ fn path_fits(r: &[u16], j: u16) -> bool
     if !words::within(1, rules::automata(r), x) {
         return false;
     }
-    let v = rules::automaton_word(r, x, 0);
-    if v > 4 {
+    let v = rules::variables(r, x);
+    if v > format::VARIABLES_MOST {
         return false;
     }
     refers_above(r, j, 1, v) && unused(r, j, 2 + v)

@@ -10,6 +10,7 @@ ghost use Rattle.sheets.specs.Positions.{someBelow, standsAt};
 ghost use Rattle.sheets.specs.Gathered.{records, Along, Remaining, Never};
 ghost use Rattle.sheets.specs.Transitions.{LeavingTaken};
 use crate::along;
+use crate::format;
 use crate::walker;
 use crate::words;
 use crate::words::Step;
@@ -30,7 +31,7 @@ fn some(set: u16) -> bool
 }
 
 // The positions, among n, at which t stands.
-fn positions(states: [u16; 16], n: u16, t: u16) -> u16
+fn positions(states: [u16; format::CHAINED], n: u16, t: u16) -> u16
     requires { ⌜ n ≤ 16 ⌝ }
     ensures { λ s. ⌜ ((k : ℕ) → Words.bit s k ≡ standsAt states n t k) ⌝ }
 {
@@ -57,7 +58,12 @@ fn marked(set: u16, mask: u16) -> u16
 }
 
 // The masks with one more at each position of the set, among n.
-fn with_mask(mut masks: [u16; 16], n: u16, set: u16, mask: u16) -> [u16; 16]
+fn with_mask(
+    mut masks: [u16; format::CHAINED],
+    n: u16,
+    set: u16,
+    mask: u16,
+) -> [u16; format::CHAINED]
     requires { ⌜ n ≤ 16 ⌝ }
     ensures { λ m. ⌜ ((k w : ℕ) → k < n → Words.bit (getD m k 0) w ≡ (Words.bit (getD masks k 0) w || (Words.bit mask w && Words.bit set k))) ⌝ }
 {
@@ -76,9 +82,9 @@ fn with_mask(mut masks: [u16; 16], n: u16, set: u16, mask: u16) -> [u16; 16]
 // there; the positions that are some target, and those that are one under some valuation; the valuations that one mask has, and those
 // that two have; and whether each target has a position and none is met twice.
 pub struct Leaving {
-    pub states: [u16; 16],
+    pub states: [u16; format::CHAINED],
     pub n: u16,
-    pub masks: [u16; 16],
+    pub masks: [u16; format::CHAINED],
     pub met: u16,
     pub led: u16,
     pub once: u16,
@@ -97,7 +103,7 @@ fn with_leaving(a: Leaving, s: Step) -> Leaving
             second,
             next: _,
         } => {
-            if a.n > 16 {
+            if a.n > format::CHAINED_MOST {
                 return a;
             }
             let states = a.states;

@@ -12,7 +12,7 @@ use borrow.Author.Tests.{le-leb, lt-leb, ne-eqb}
 use lib.Dec.{T, leb, eqb, eqb→eq}
 use Rattle.sheets.specs.Words.{word, bit, within, each, allOf, anyOf, member, indicator, sum, howMany, chain, link}
 use Rattle.sheets.specs.Questions.{none, firstNo}
-use Rattle.sheets.specs.Machine.{nodes, signals, edges, nodeWord, edgeWord, signalAt, startFlag, target, edgesOf, kripke, machineRefusal}
+use Rattle.sheets.specs.Machine.{nodes, signals, edges, signalAt, startFlag, target, edgesOf, kripke, machineRefusal}
 use Rattle.sheets.specs.Rules.{fits, lent, automata, states, transitions, lines, automatonWord, stateWord, transitionWord, lineWord, variables, initial, statesOf, accepting, transitionsOf, transitionTarget, mask, leads, keep, passing, reached, walks, unmixed, distinct, transitionsFit, automatonFits, total, automatonTotal, unused, refersAbove, pathFits, lineFits, recordQuestions, automataQuestions, ruleQuestions, ruleRefusal, overSignals, q7, q8, q9, q10, q11, q12, q13, q14, q15, automaton, lineOf, line}
 use Rattle.sheets.specs.Worked.{M3}
 use Rattle.sheets.proofs.AcceptedMachine.{firstNext, first-edge, edge-stays, nodes-sized, start-node}
@@ -145,7 +145,7 @@ turn (suc zero) = 2
 turn (suc (suc i)) = turn i
 
 pub case-e-true : TrueAt lent M3 EvenSheet 2 1
-unfolding TrueAt True TrueWithin Means line lineOf lineWord lent automata states transitions automaton variables initial accepting transitionsOf transitionTarget mask automatonWord stateWord transitionWord word bit anyOf chain Valuation kripke nodes edges nodeWord edgeWord signalAt target edgesOf turn
+unfolding TrueAt True TrueWithin Means line lineOf lineWord lent automata states transitions automaton variables initial accepting transitionsOf transitionTarget mask automatonWord stateWord transitionWord word bit anyOf chain Valuation kripke nodes edges signalAt target edgesOf turn
 case-e-true = record {
   node = turn;
   state = turn;
@@ -183,7 +183,7 @@ module _ (p : SomePath (kripke M3) (automaton EvenSheet 1) (TrueWithin (kripke M
     (λ k. lineWord lent EvenSheet 2 (2 + k)) (accepting EvenSheet) 2) where
   -- signal 1 is not set at node 2, so the first valuation is 0
   first-valuation : p .valuation 0 ≡ 0
-  unfolding Valuation TrueWithin Means line lineOf lineWord lent automata states transitions automaton variables automatonWord word bit kripke signalAt nodeWord
+  unfolding Valuation TrueWithin Means line lineOf lineWord lent automata states transitions automaton variables automatonWord word bit kripke signalAt
   first-valuation =
       let v = subst (λ (s : ℕ). Valuation (TrueWithin (kripke M3) (automaton EvenSheet) (line lent EvenSheet) 1) 1 (λ k. lineWord lent EvenSheet 2 (2 + k)) s (p .valuation 0)) (p .starts) (p .values 0) in
       only-zero (p .valuation 0) (v .0) (v .1 0 (omega arith) .0)
@@ -221,11 +221,11 @@ even-accepted = refl
 
 -- line 1 is signal 1, which node 1 alone has
 signal-on : TrueAt lent M3 EvenSheet 1 1
-unfolding TrueAt True TrueWithin Means line lineOf lineWord lent automata states transitions word kripke signalAt nodeWord bit
+unfolding TrueAt True TrueWithin Means line lineOf lineWord lent automata states transitions word kripke signalAt bit
 signal-on = tt
 
 signal-off : TrueAt lent M3 EvenSheet 1 2 → ⊥
-unfolding TrueAt True TrueWithin Means line lineOf lineWord lent automata states transitions word kripke signalAt nodeWord bit
+unfolding TrueAt True TrueWithin Means line lineOf lineWord lent automata states transitions word kripke signalAt bit
 signal-off t = t
 
 even-truth : (j s : ℕ) → 1 ≤ j → j ≤ 2 → 1 ≤ s → s ≤ 2 → T (eqb s 1) ↔ TrueAt lent M3 EvenSheet j s
@@ -241,7 +241,7 @@ even-truth (suc (suc (suc j))) (suc s) lo hi l h = absurd (omega arith)
 
 -- node 1 alone starts
 even-kept : (s : ℕ) → 1 ≤ s → s ≤ 2 → T (kripke M3 .start s) → TrueAt lent M3 EvenSheet 2 s
-unfolding kripke nodes startFlag nodeWord word within
+unfolding kripke nodes startFlag word within
 even-kept zero lo hi k = absurd (omega arith)
 even-kept (suc zero) lo hi k = case-e-true
 even-kept (suc (suc zero)) lo hi k = absurd k

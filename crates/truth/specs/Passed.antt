@@ -3,6 +3,6 @@ pub use Rattle.sheets.specs.Questions.{Refusal, Question, ask}
 pub use Rattle.sheets.specs.Structures.{Kripke, Automaton, Line, signal, negation, either, somePath, somePathNot, malformed}
 unfoldable pub use Rattle.sheets.specs.Questions.{none, firstNo}
 unfoldable pub use Rattle.sheets.specs.Words.{word, bit, each, within, anyOf, chain}
-unfoldable pub use Rattle.sheets.specs.Machine.{kripke, nodes, signals, edges, nodeWord, edgeWord, signalAt, startFlag, target, edgesOf, machineQuestions, machineRefusal, q1, q2, q3, q4, q5, q6}
+unfoldable pub use Rattle.sheets.specs.Machine.{kripke, nodes, signals, edges, signalAt, startFlag, target, edgesOf, machineQuestions, machineRefusal}
 unfoldable pub use Rattle.sheets.specs.Rules.{lent, lifted, automata, states, transitions, variables, lines, lineWord, automaton, line, lineOf, unused, refersAbove, pathFits, lineFits, ruleRefusal, overSignals, q7, q8, q9, q10, q11, q12, q13, q14, q15}
 pub use Rattle.sheets.specs.Worked.{M1, M2, M3, M5, M6, MixedSheet, PartialSheet, SelfLinked, ExtraSignal}

@@ -12,7 +12,7 @@ pub fn first_break(m: &[u16], row: Row) -> u16
     let mut s: u16 = 0;
     while s < n {
         s += 1;
-        if machine::node_word(m, s, 1) == 1 {
+        if machine::start_flag(m, s) == 1 {
             if !row.has(s) {
                 return s;
             }

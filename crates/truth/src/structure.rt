@@ -19,6 +19,7 @@ use crate::tables::line_row;
 use crate::tables::load;
 use crate::tables::store;
 use sheets::along;
+use sheets::format;
 use sheets::machine;
 use sheets::walker;
 use sheets::words::Step;
@@ -127,11 +128,11 @@ fn chain_row(m: &[u16], x: u16, tail: Tail) -> Row
     if x as u64 == tail.at {
         return tail.row;
     }
-    let n = machine::nodes(m);
+    let from = machine::edges_from(m);
     let e = machine::edges(m);
     let known = tail_for(tail, x, e);
     let none = no_targets(known.at);
-    let found = targets_along(m, 3 + 3 * (n as u32), 2, x, e, none);
+    let found = targets_along(m, from, format::EDGE_WORDS, x, e, none);
     let row = found.row;
     if found.link == found.stop {
         let rest = known.row;
@@ -145,7 +146,7 @@ fn successor_row(m: &[u16], s: u16, tail: Tail) -> Row
     requires { ⌜ TailOf (now m) tail ⌝ }
     ensures { λ r. ⌜ ((t : ℕ) → rowHas r t ≡ (within 1 128 t && Machine.kripke (now (m .entry)) .edge s t)) ⌝ }
 {
-    chain_row(m, machine::node_word(m, s, 2), tail)
+    chain_row(m, machine::first_edge(m, s), tail)
 }
 
 // Where the chains of the nodes may have become one: the highest record that comes after the first ones of a chain, as many as there are
@@ -157,13 +158,14 @@ fn joint(m: &[u16]) -> u16 {
         return 0;
     }
     let share = e / n;
+    let from = machine::edges_from(m);
     let none = no_targets(0);
     let mut at: u64 = 0;
     let mut s: u16 = 0;
     while s < n {
         s += 1;
-        let first = machine::node_word(m, s, 2);
-        let found = targets_along(m, 3 + 3 * (n as u32), 2, first, share, none);
+        let first = machine::first_edge(m, s);
+        let found = targets_along(m, from, format::EDGE_WORDS, first, share, none);
         if found.link > at {
             at = found.link;
         }
@@ -230,7 +232,7 @@ pub fn start_row(m: &[u16]) -> Row
     let mut s: u16 = 0;
     while s < n {
         s += 1;
-        if machine::node_word(m, s, 1) == 1 {
+        if machine::start_flag(m, s) == 1 {
             out = out.with(s);
         }
     }

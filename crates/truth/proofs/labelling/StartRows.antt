@@ -8,7 +8,9 @@ use mathlib.Core.Bool.{Bool, not, _&&_}
 use lib.Dec.{T, T-not, not-T, leb, ltb, eqb, leb→le}
 use borrow.Author.Tests.{le-leb, eq-eqb}
 use Rattle.sheets.specs.Words.{within, each}
-use Rattle.sheets.specs.Machine.{nodes, signals, nodeWord, startFlag, kripke, machineRefusal, q3, q6}
+use Rattle.sheets.specs.Format.{plain}
+use Rattle.sheets.specs.Machine.{nodes, signals, startFlag, kripke, machineRefusal}
+use Rattle.sheets.specs.MachineForms.{nodeWord, q3, q6}
 use Rattle.sheets.specs.Rules.{lent, lines}
 use Rattle.sheets.proofs.Tests.{and-left, and-right, and-both, surely}
 use Rattle.sheets.proofs.Search.{within-in, each-at, each-in, find, le-or-gt}
@@ -62,8 +64,8 @@ some-start M accepted = ⊎-elim (λ r. (r .0, r .3)) (λ none. absurd (no-start
     no-start none =
         let a = machine-answers M accepted in
         T-not (each (nodes M) (λ s. eqb (startFlag M s) 0)) (a .six) (each-in (nodes M) (λ s. eqb (startFlag M s) 0) (λ s lo hi.
-        let flag = each-at (nodes M) (λ s. ltb (nodeWord M s 0) (2 ^ signals M) && leb (startFlag M s) 1) (a .three) s lo hi in
-        let most = leb→le (startFlag M s) 1 (and-right (ltb (nodeWord M s 0) (2 ^ signals M)) (leb (startFlag M s) 1) flag) in
+        let flag = each-at (nodes M) (λ s. ltb (nodeWord plain M s (plain .signals)) (2 ^ signals M) && leb (startFlag M s) 1) (a .three) s lo hi in
+        let most = leb→le (startFlag M s) 1 (and-right (ltb (nodeWord plain M s (plain .signals)) (2 ^ signals M)) (leb (startFlag M s) 1) flag) in
         let other : startFlag M s ≡ 1 → ⊥ = λ e. T-not (within 1 (nodes M) s && eqb (startFlag M s) 1) (none s lo hi)
         (and-both (within 1 (nodes M) s) (eqb (startFlag M s) 1) (within-in 1 (nodes M) s lo hi) (subst T (sym (eq-eqb (startFlag M s) 1 e)) tt)) in
         let e : startFlag M s ≡ 0 = ⊎-elim (λ l. omega arith) (λ l. absurd (other (omega arith))) (le-or-gt (startFlag M s) 0) in

@@ -20,13 +20,13 @@ returns c =
     let a = c .before .before .before .before .before .args in
     no-automaton (a .r .now) (a .j) _ (c .before .before .before .line-word .ensures) (rw (c .before .before .automata .ensures) at (sym (c .before .within .ensures) ∙ not-true _ (c .if1 .taken)))
 
-automaton-word-requires : tie.Need-automaton-word-requires
-automaton-word-requires c κs = search needs
+variables-requires : tie.Need-variables-requires
+variables-requires c κs = search needs
 
 returns-2 : tie.Need-returns-2
 returns-2 c =
     let a = c .before .before .before .before .before .before .before .args in
-    too-many (a .r .now) (a .j) _ (c .before .before .before .before .before .line-word .ensures) _ (c .before .automaton-word .ensures) (c .if2 .taken)
+    too-many (a .r .now) (a .j) _ (c .before .before .before .before .before .line-word .ensures) _ (c .before .variables .ensures) (c .if2 .taken)
 
 refers-above-requires : tie.Need-refers-above-requires
 refers-above-requires c κs = search needs
@@ -41,13 +41,13 @@ returns-3 : tie.Need-returns-3
 returns-3 c =
     let a = c .before .before .before .before .before .before .before .before .before .before .args in
     let w = rw (c .before .before .before .before .before .before .before .automata .ensures) at (sym (c .before .before .before .before .before .before .within .ensures) ∙ not-false _ (c .before .before .before .before .before .if1 .left)) in
-    c .unused .ensures ∙ as-rest (a .r .now) (a .j) _ (c .before .before .before .before .before .before .before .before .line-word .ensures) _ (c .before .before .before .before .automaton-word .ensures) w (sym (c .before .before .refers-above .ensures) ∙ c .before .if3 .taken)
+    c .unused .ensures ∙ as-rest (a .r .now) (a .j) _ (c .before .before .before .before .before .before .before .before .line-word .ensures) _ (c .before .before .before .before .variables .ensures) w (sym (c .before .before .refers-above .ensures) ∙ c .before .if3 .taken)
 
 returns-4 : tie.Need-returns-4
 returns-4 c =
     let a = c .before .before .before .before .before .before .before .before .before .args in
     let w = rw (c .before .before .before .before .before .before .automata .ensures) at (sym (c .before .before .before .before .before .within .ensures) ∙ not-false _ (c .before .before .before .before .if1 .left)) in
-    c .if3 .left ∙ no-lines (a .r .now) (a .j) _ (c .before .before .before .before .before .before .before .line-word .ensures) _ (c .before .before .before .automaton-word .ensures) w (sym (c .before .refers-above .ensures) ∙ c .if3 .left)
+    c .if3 .left ∙ no-lines (a .r .now) (a .j) _ (c .before .before .before .before .before .before .before .line-word .ensures) _ (c .before .before .before .variables .ensures) w (sym (c .before .refers-above .ensures) ∙ c .if3 .left)
 
 pub path-fits-spec : {M : Type 1} → statement M
 path-fits-spec =
@@ -57,7 +57,7 @@ path-fits-spec =
     automata-requires
     within-requires
     returns
-    automaton-word-requires
+    variables-requires
     returns-2
     refers-above-requires
     add-unused

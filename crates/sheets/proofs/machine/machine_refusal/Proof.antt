@@ -1,106 +1,15 @@
--- `machine_refusal` meets its contract: each question that was passed says yes, and the one that returned says no.
+-- `machine_refusal` meets its contract.
 use borrow.Author.Needs.{needs}
-use borrow.Author.Tests.{not-true, not-false}
-use mathlib.Core.Path.{sym, _∙_}
 use Rattle.sheets.specs.Machine.{machineRefusal, machineQuestions}
-use Rattle.sheets.proofs.Questions.{found, none, yes, no}
 use Rattle.sheets.proofs.machine.machine_refusal.Statement.{statement}
 use Rattle.sheets.proofs.machine.machine_refusal.Tie as tie
 
-q1-requires : tie.Need-q1-requires
-q1-requires c κs = search needs
+refusal-in-requires : tie.Need-refusal-in-requires
+refusal-in-requires c κs = search needs
 
 returns : tie.Need-returns
 unfolding machineRefusal machineQuestions
-returns c =
-    sym (found (machineQuestions 1 (c .before .before .before .args .m .now))
-    (no (sym (c .before .q1 .ensures) ∙ not-true _ (c .if1 .taken))))
-
-q2-requires : tie.Need-q2-requires
-q2-requires c κs = search needs
-
-returns-2 : tie.Need-returns-2
-unfolding machineRefusal machineQuestions
-returns-2 c =
-    sym (found (machineQuestions 1 (c .before .before .before .before .before .args .m .now))
-    (yes (sym (c .before .before .before .q1 .ensures) ∙ not-false _ (c .before .before .if1 .left))
-    (no (sym (c .before .q2 .ensures) ∙ not-true _ (c .if2 .taken)))))
-
-q3-requires : tie.Need-q3-requires
-q3-requires c κs = search needs
-
-returns-3 : tie.Need-returns-3
-unfolding machineRefusal machineQuestions
-returns-3 c =
-    sym (found (machineQuestions 1 (c .before .before .before .before .before .before .before .args .m .now))
-    (yes (sym (c .before .before .before .before .before .q1 .ensures) ∙ not-false _ (c .before .before .before .before .if1 .left))
-    (yes (sym (c .before .before .before .q2 .ensures) ∙ not-false _ (c .before .before .if2 .left))
-    (no (sym (c .before .q3 .ensures) ∙ not-true _ (c .if3 .taken))))))
-
-q4-requires : tie.Need-q4-requires
-q4-requires c κs = search needs
-
-returns-4 : tie.Need-returns-4
-unfolding machineRefusal machineQuestions
-returns-4 c =
-    sym (found (machineQuestions 1 (c .before .before .before .before .before .before .before .before .before .args .m .now))
-    (yes (sym (c .before .before .before .before .before .before .before .q1 .ensures) ∙ not-false _ (c .before .before .before .before .before .before .if1 .left))
-    (yes (sym (c .before .before .before .before .before .q2 .ensures) ∙ not-false _ (c .before .before .before .before .if2 .left))
-    (yes (sym (c .before .before .before .q3 .ensures) ∙ not-false _ (c .before .before .if3 .left))
-    (no (sym (c .before .q4 .ensures) ∙ not-true _ (c .if4 .taken)))))))
-
-q5-requires : tie.Need-q5-requires
-q5-requires c κs = search needs
-
-returns-5 : tie.Need-returns-5
-unfolding machineRefusal machineQuestions
-returns-5 c =
-    sym (found (machineQuestions 1 (c .before .before .before .before .before .before .before .before .before .before .before .args .m .now))
-    (yes (sym (c .before .before .before .before .before .before .before .before .before .q1 .ensures) ∙ not-false _ (c .before .before .before .before .before .before .before .before .if1 .left))
-    (yes (sym (c .before .before .before .before .before .before .before .q2 .ensures) ∙ not-false _ (c .before .before .before .before .before .before .if2 .left))
-    (yes (sym (c .before .before .before .before .before .q3 .ensures) ∙ not-false _ (c .before .before .before .before .if3 .left))
-    (yes (sym (c .before .before .before .q4 .ensures) ∙ not-false _ (c .before .before .if4 .left))
-    (no (sym (c .before .q5 .ensures) ∙ not-true _ (c .if5 .taken))))))))
-
-q6-requires : tie.Need-q6-requires
-q6-requires c κs = search needs
-
-returns-6 : tie.Need-returns-6
-unfolding machineRefusal machineQuestions
-returns-6 c =
-    sym (found (machineQuestions 1 (c .before .before .before .before .before .before .before .before .before .before .before .before .before .args .m .now))
-    (yes (sym (c .before .before .before .before .before .before .before .before .before .before .before .q1 .ensures) ∙ not-false _ (c .before .before .before .before .before .before .before .before .before .before .if1 .left))
-    (yes (sym (c .before .before .before .before .before .before .before .before .before .q2 .ensures) ∙ not-false _ (c .before .before .before .before .before .before .before .before .if2 .left))
-    (yes (sym (c .before .before .before .before .before .before .before .q3 .ensures) ∙ not-false _ (c .before .before .before .before .before .before .if3 .left))
-    (yes (sym (c .before .before .before .before .before .q4 .ensures) ∙ not-false _ (c .before .before .before .before .if4 .left))
-    (yes (sym (c .before .before .before .q5 .ensures) ∙ not-false _ (c .before .before .if5 .left))
-    (no (sym (c .before .q6 .ensures) ∙ not-true _ (c .if6 .taken)))))))))
-
-returns-7 : tie.Need-returns-7
-unfolding machineRefusal machineQuestions
-returns-7 c =
-    sym (found (machineQuestions 1 (c .before .before .before .before .before .before .before .before .before .before .before .before .before .args .m .now))
-    (yes (sym (c .before .before .before .before .before .before .before .before .before .before .before .q1 .ensures) ∙ not-false _ (c .before .before .before .before .before .before .before .before .before .before .if1 .left))
-    (yes (sym (c .before .before .before .before .before .before .before .before .before .q2 .ensures) ∙ not-false _ (c .before .before .before .before .before .before .before .before .if2 .left))
-    (yes (sym (c .before .before .before .before .before .before .before .q3 .ensures) ∙ not-false _ (c .before .before .before .before .before .before .if3 .left))
-    (yes (sym (c .before .before .before .before .before .q4 .ensures) ∙ not-false _ (c .before .before .before .before .if4 .left))
-    (yes (sym (c .before .before .before .q5 .ensures) ∙ not-false _ (c .before .before .if5 .left))
-    (yes (sym (c .before .q6 .ensures) ∙ not-false _ (c .if6 .left)) none)))))))
+returns c = c .refusal-in .ensures
 
 pub machine-refusal-spec : {M : Type 1} → statement M
-machine-refusal-spec =
-    tie.close
-    (tie.spec
-    q1-requires
-    returns
-    q2-requires
-    returns-2
-    q3-requires
-    returns-3
-    q4-requires
-    returns-4
-    q5-requires
-    returns-5
-    q6-requires
-    returns-6
-    returns-7)
+machine-refusal-spec = tie.close (tie.spec refusal-in-requires returns)

@@ -7,19 +7,20 @@ use Prim.Native.Nat.{ℕ, _-_, _^_}
 use mathlib.Core.List.{List}
 use mathlib.Core.Bool.{Bool, _&&_}
 use lib.Dec.{leb, ltb}
-use Rattle.sheets.specs.Machine.{q3, nodes, signals, nodeWord, startFlag}
+use Rattle.sheets.specs.MachineForms.{q3, signals, nodeWord, startFlag}
+use Rattle.sheets.specs.declared.format.NodeForm.{NodeForm}
 use Rattle.sheets.proofs.EachLoops.{Tested, each-starts, each-goes, each-stops, each-ends}
 use Rattle.sheets.proofs.machine.q3.Statement.{statement}
 use Rattle.sheets.proofs.machine.q3.Tie as tie
 
-abbrev test : List ℕ → ℕ → Bool
-test m s = ltb (nodeWord m s 0) (2 ^ signals m) && leb (nodeWord m s 1) 1
+abbrev test : NodeForm → List ℕ → ℕ → Bool
+test f m s = ltb (nodeWord f m s (f .signals)) (2 ^ signals m) && leb (nodeWord f m s (f .flag)) 1
 
 abbrev Inv-loop : tie.InvT-loop
-Inv-loop m n a s₀ s = Tested (test m) n s
+Inv-loop m f n a s₀ s = Tested (test f m) n s
 
 abbrev μ-loop : tie.MeasureT-loop
-μ-loop m n a s₀ s = n - s
+μ-loop m f n a s₀ s = n - s
 
 nodes-requires : tie.Need-nodes-requires Inv-loop μ-loop
 nodes-requires c κs = search needs
@@ -44,10 +45,10 @@ unfolding q3 startFlag
 returns c =
     let turn = c .before .before .before in
     let read = turn .before .before in
-    let m = read .before .before .before .args .m .now in
+    let args = read .before .before .before .args in
     let b = rw (read .signals .ensures, c .before .before .node-word .ensures) at
     (sym (c .before .below-power .ensures) ∙ not-true _ (c .if1 .taken)) in
-    sym (each-stops (test m) (read .before .nodes .ensures) (turn .loop-test .taken) (rw b))
+    sym (each-stops (test (args .f) (args .m .now)) (read .before .nodes .ensures) (turn .loop-test .taken) (rw b))
 
 node-word-requires-2 : tie.Need-node-word-requires-2 Inv-loop μ-loop
 node-word-requires-2 c κs = search needs
@@ -58,11 +59,11 @@ returns-2 c =
     let if1 = c .before .before in
     let turn = if1 .before .before .before in
     let read = turn .before .before in
-    let m = read .before .before .before .args .m .now in
+    let args = read .before .before .before .args in
     let b = rw (read .signals .ensures, if1 .before .before .node-word .ensures) at
     (sym (if1 .before .below-power .ensures) ∙ not-false _ (if1 .if1 .left)) in
     let l = rw (c .before .node-word2 .ensures) at (lt-leb _ 1 (c .if2 .taken)) in
-    sym (each-stops (test m) (read .before .nodes .ensures) (turn .loop-test .taken) (rw (b, l)))
+    sym (each-stops (test (args .f) (args .m .now)) (read .before .nodes .ensures) (turn .loop-test .taken) (rw (b, l)))
 
 loop-less : tie.Need-loop-less Inv-loop μ-loop
 loop-less c = search needs
@@ -72,11 +73,11 @@ loop-again c =
     let if1 = c .before .before in
     let turn = if1 .before .before .before in
     let read = turn .before .before in
-    let m = read .before .before .before .args .m .now in
+    let args = read .before .before .before .args in
     let b = rw (read .signals .ensures, if1 .before .before .node-word .ensures) at
     (sym (if1 .before .below-power .ensures) ∙ not-false _ (if1 .if1 .left)) in
     let l = rw (c .before .node-word2 .ensures) at (le-leb _ 1 (c .if2 .left)) in
-    each-goes (test m) (turn .loop-test .taken) (turn .before .loop .inv) (rw (b, l))
+    each-goes (test (args .f) (args .m .now)) (turn .loop-test .taken) (turn .before .loop .inv) (rw (b, l))
 
 returns-3 : tie.Need-returns-3 Inv-loop μ-loop
 unfolding q3 startFlag

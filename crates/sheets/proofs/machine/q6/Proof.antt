@@ -6,19 +6,20 @@ use mathlib.Core.List.{List}
 use borrow.Author.Tests.{eq-eqb, ne-eqb}
 use mathlib.Core.Bool.{Bool}
 use lib.Dec.{eqb}
-use Rattle.sheets.specs.Machine.{q6, nodes, nodeWord, startFlag}
+use Rattle.sheets.specs.MachineForms.{q6, nodeWord, startFlag}
+use Rattle.sheets.specs.declared.format.NodeForm.{NodeForm}
 use Rattle.sheets.proofs.EachLoops.{Tested, each-starts, each-goes, each-stops, each-ends}
 use Rattle.sheets.proofs.machine.q6.Statement.{statement}
 use Rattle.sheets.proofs.machine.q6.Tie as tie
 
-abbrev test : List ℕ → ℕ → Bool
-test m s = eqb (nodeWord m s 1) 0
+abbrev test : NodeForm → List ℕ → ℕ → Bool
+test f m s = eqb (nodeWord f m s (f .flag)) 0
 
 abbrev Inv-loop : tie.InvT-loop
-Inv-loop m n s₀ s = Tested (test m) n s
+Inv-loop m f n s₀ s = Tested (test f m) n s
 
 abbrev μ-loop : tie.MeasureT-loop
-μ-loop m n s₀ s = n - s
+μ-loop m f n s₀ s = n - s
 
 nodes-requires : tie.Need-nodes-requires Inv-loop μ-loop
 nodes-requires c κs = search needs
@@ -38,7 +39,7 @@ returns c =
     let turn = c .before .before in
     let read = turn .before .before in
     let f = ne-eqb _ 0 (λ e. c .if1 .taken (c .before .node-word .ensures ∙ e)) in
-    rw (each-stops (test (read .before .before .args .m .now)) (read .nodes .ensures) (turn .loop-test .taken) f)
+    rw (each-stops (test (read .before .before .args .f) (read .before .before .args .m .now)) (read .nodes .ensures) (turn .loop-test .taken) f)
 
 loop-less : tie.Need-loop-less Inv-loop μ-loop
 loop-less c = search needs
@@ -46,14 +47,14 @@ loop-less c = search needs
 loop-again : tie.Need-loop-again Inv-loop μ-loop
 loop-again c =
     let turn = c .before .before in
-    let m = turn .before .before .before .before .args .m .now in
-    each-goes (test m) (turn .loop-test .taken) (turn .before .loop .inv) (eq-eqb _ 0 (sym (c .before .node-word .ensures) ∙ c .if1 .left))
+    let args = turn .before .before .before .before .args in
+    each-goes (test (args .f) (args .m .now)) (turn .loop-test .taken) (turn .before .loop .inv) (eq-eqb _ 0 (sym (c .before .node-word .ensures) ∙ c .if1 .left))
 
 returns-2 : tie.Need-returns-2 Inv-loop μ-loop
 unfolding q6 startFlag
 returns-2 c =
     let read = c .before .before in
-    rw (each-ends (test (read .before .before .args .m .now)) (read .nodes .ensures) (c .loop-test .left) (c .before .loop .inv))
+    rw (each-ends (test (read .before .before .args .f) (read .before .before .args .m .now)) (read .nodes .ensures) (c .loop-test .left) (c .before .loop .inv))
 
 pub q6-spec : {M : Type 1} → statement M
 q6-spec =

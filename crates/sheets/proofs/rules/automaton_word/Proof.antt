@@ -1,28 +1,15 @@
--- `automaton_word` meets its contract: the place is a sum of words below 2 ^ 16, so that it does not wrap, and it is the definition's.
+-- `automaton_word` meets its contract.
 use borrow.Author.Needs.{needs}
 use Rattle.sheets.specs.Rules.{automatonWord}
 use Rattle.sheets.proofs.rules.automaton_word.Statement.{statement}
 use Rattle.sheets.proofs.rules.automaton_word.Tie as tie
 
-monus-requires : tie.Need-monus-requires
-monus-requires c κs = search needs
-
-mul-word : tie.Need-mul-word
-mul-word c = search needs
-
-add-word : tie.Need-add-word
-add-word c = search needs
-
-add-word-2 : tie.Need-add-word-2
-add-word-2 c = search needs
-
-word-requires : tie.Need-word-requires
-word-requires c κs = search needs
+record-word-requires : tie.Need-record-word-requires
+record-word-requires c κs = search needs
 
 returns : tie.Need-returns
 unfolding automatonWord
-returns c = rw (c .before .monus .ensures) at (c .word .ensures)
+returns c = c .record-word .ensures
 
 pub automaton-word-spec : {M : Type 1} → statement M
-automaton-word-spec =
-    tie.close (tie.spec monus-requires mul-word add-word add-word-2 word-requires returns)
+automaton-word-spec = tie.close (tie.spec record-word-requires returns)

@@ -1,69 +1,18 @@
--- `transition_word` meets its contract: the place is a sum of words below 2 ^ 16, so that it does not wrap, and it is the definition's.
+-- `transition_word` meets its contract.
 use borrow.Author.Needs.{needs}
 use Rattle.sheets.specs.Rules.{transitionWord}
 use Rattle.sheets.proofs.rules.transition_word.Statement.{statement}
 use Rattle.sheets.proofs.rules.transition_word.Tie as tie
 
-automata-requires : tie.Need-automata-requires
-automata-requires c κs = search needs
+transitions-from-requires : tie.Need-transitions-from-requires
+transitions-from-requires c κs = search needs
 
-states-requires : tie.Need-states-requires
-states-requires c κs = search needs
-
-cast-word : tie.Need-cast-word
-cast-word c = search needs
-
-mul-word : tie.Need-mul-word
-mul-word c = search needs
-
-add-word : tie.Need-add-word
-add-word c = search needs
-
-cast-word-2 : tie.Need-cast-word-2
-cast-word-2 c = search needs
-
-mul-word-2 : tie.Need-mul-word-2
-mul-word-2 c = search needs
-
-add-word-2 : tie.Need-add-word-2
-add-word-2 c = search needs
-
-monus-requires : tie.Need-monus-requires
-monus-requires c κs = search needs
-
-mul-word-3 : tie.Need-mul-word-3
-mul-word-3 c = search needs
-
-add-word-3 : tie.Need-add-word-3
-add-word-3 c = search needs
-
-add-word-4 : tie.Need-add-word-4
-add-word-4 c = search needs
-
-word-requires : tie.Need-word-requires
-word-requires c κs = search needs
+record-word-requires : tie.Need-record-word-requires
+record-word-requires c κs = search needs
 
 returns : tie.Need-returns
 unfolding transitionWord
-returns c =
-    let read = c .before .before in
-    rw (read .before .automata .ensures, read .states .ensures, c .before .monus .ensures) at (c .word .ensures)
+returns c = rw (c .before .transitions-from .ensures) at (c .record-word .ensures)
 
 pub transition-word-spec : {M : Type 1} → statement M
-transition-word-spec =
-    tie.close
-    (tie.spec
-    automata-requires
-    states-requires
-    cast-word
-    mul-word
-    add-word
-    cast-word-2
-    mul-word-2
-    add-word-2
-    monus-requires
-    mul-word-3
-    add-word-3
-    add-word-4
-    word-requires
-    returns)
+transition-word-spec = tie.close (tie.spec transitions-from-requires record-word-requires returns)

@@ -27,8 +27,8 @@ loop-holds c =
 add-s : tie.Need-add-s Inv-loop μ-loop
 add-s c = search needs
 
-node-word-requires : tie.Need-node-word-requires Inv-loop μ-loop
-node-word-requires c κs = search needs
+start-flag-requires : tie.Need-start-flag-requires Inv-loop μ-loop
+start-flag-requires c κs = search needs
 
 has-requires : tie.Need-has-requires Inv-loop μ-loop
 has-requires c κs = search needs
@@ -38,7 +38,7 @@ unfolding startFlag
 returns c =
     let a = c .before .before .before .before .before .before .before .before .args in
     let at = c .before .before .before .before .before .loop in
-    let flag = sym (c .before .before .before .node-word .ensures) ∙ c .before .before .if1 .taken in
+    let flag = sym (c .before .before .before .start-flag .ensures) ∙ c .before .before .if1 .taken in
     let n = c .before .before .before .before .before .before .nodes in
     outside-found (a .m .now) (rowHas (a .row)) (at .s) (at .inv .1) (omega (arith, n .ensures)) flag
     (sym (c .before .has .ensures) ∙ not-true (c .before .has .result) (c .if2 .taken))
@@ -61,7 +61,7 @@ unfolding startFlag
 loop-again-2 c =
     let a = c .before .before .before .before .before .before .args in
     let at = c .before .before .before .loop in
-    let word = c .before .node-word in
+    let word = c .before .start-flag in
     (omega arith, passed-other (a .m .now) (rowHas (a .row)) (at .s) (at .inv .1) (λ e. c .if1 .left (word .ensures ∙ e)))
 
 returns-2 : tie.Need-returns-2 Inv-loop μ-loop
@@ -79,7 +79,7 @@ first-break-spec =
     nodes-requires
     loop-holds
     add-s
-    node-word-requires
+    start-flag-requires
     has-requires
     returns
     loop-less

@@ -17,14 +17,14 @@ Inv-loop r rows j x t out₀ into₀ onto₀ states v table p₀ out into onto p
 abbrev μ-loop : tie.MeasureT-loop
 μ-loop r rows j x t out₀ into₀ onto₀ states v table p₀ out into onto p = t - p
 
-automaton-word-requires : tie.Need-automaton-word-requires Inv-loop μ-loop
-automaton-word-requires c κs = omega arith
+variables-requires : tie.Need-variables-requires Inv-loop μ-loop
+variables-requires c κs = omega arith
 
 valuation-table-requires : tie.Need-valuation-table-requires Inv-loop μ-loop
 unfolding variables
 valuation-table-requires c κs =
     let pre = c .before .before .before .pre in
-    rw (c .automaton-word .ensures) (pre .1, pre .3)
+    rw (c .variables .ensures) (pre .1, pre .3)
 
 loop-holds : tie.Need-loop-holds Inv-loop μ-loop
 loop-holds c = (omega arith, built-none _ _ _ _ _ _ (c .before .before .before .before .pre .4) (c .before .before .before .before .pre .5), c .before .before .before .before .pre .6, c .before .before .before .before .pre .7)
@@ -70,7 +70,7 @@ returns c =
     let e : c .before .loop .p ≡ a .t = omega arith in
     let l = c .before .loop in (
       built-allowed (a .r .now) (a .rows .now) _ (c .before .before .valuation-table .result) (rowHas (a .all)) (a .j) (a .x) _ (a .t) _
-          (c .before .before .before .automaton-word .ensures) (c .before .before .before .before .before .before .pre .2) (c .before .before .valuation-table .ensures .1) (rw e at (l .inv .1)),
+          (c .before .before .before .variables .ensures) (c .before .before .before .before .before .before .pre .2) (c .before .before .valuation-table .ensures .1) (rw e at (l .inv .1)),
       (l .inv .2, l .inv .3),
     )
 
@@ -80,7 +80,7 @@ allow-table-spec =
     (tie.spec
     Inv-loop
     μ-loop
-    automaton-word-requires
+    variables-requires
     valuation-table-requires
     loop-holds
     cast-masks-from

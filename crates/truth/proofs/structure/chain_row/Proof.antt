@@ -22,7 +22,7 @@ gathered c =
     let edges = c .before .before .before .edges in
     let small : edges .result < 65536 = search needs in
     let of = tail-used (a .m .now) (a .tail) (used .result) (a .x) (edges .result) (start .pre) (used .ensures) in
-    chain-until (a .m .now) (used .result) (of .0) _ (edges .result) (a .x) (none .result) (c .targets-along .result) (c .before .before .before .before .nodes .ensures) (edges .ensures) small (of .1)
+    chain-until (a .m .now) (used .result) (of .0) _ (edges .result) (a .x) (none .result) (c .targets-along .result) (c .before .before .before .before .edges-from .ensures) (edges .ensures) small (of .1)
     (none .ensures .0) (none .ensures .1 .0) (none .ensures .1 .1) (c .targets-along .ensures)
 
 returns : tie.Need-returns
@@ -30,8 +30,8 @@ returns c t =
     let start = c .before .before .before .before in
     subst (λ y. rowHas (start .args .tail .row) t ≡ (within 1 128 t && chainLeads (start .args .m .now) y t)) (sym (c .before .if1 .taken)) (start .pre .leads t)
 
-nodes-requires : tie.Need-nodes-requires
-nodes-requires c κs = search needs
+edges-from-requires : tie.Need-edges-from-requires
+edges-from-requires c κs = search needs
 
 edges-requires : tie.Need-edges-requires
 edges-requires c κs = search needs
@@ -41,15 +41,6 @@ tail-for-requires c κs = search needs
 
 no-targets-requires : tie.Need-no-targets-requires
 no-targets-requires c κs = search needs
-
-cast-targets-along : tie.Need-cast-targets-along
-cast-targets-along c = search needs
-
-mul-targets-along : tie.Need-mul-targets-along
-mul-targets-along c = search needs
-
-add-targets-along : tie.Need-add-targets-along
-add-targets-along c = search needs
 
 targets-along-requires : tie.Need-targets-along-requires
 targets-along-requires c κs = search needs
@@ -68,13 +59,10 @@ chain-row-spec =
     tie.close
     (tie.spec
     returns
-    nodes-requires
+    edges-from-requires
     edges-requires
     tail-for-requires
     no-targets-requires
-    cast-targets-along
-    mul-targets-along
-    add-targets-along
     targets-along-requires
     union-requires
     returns-2

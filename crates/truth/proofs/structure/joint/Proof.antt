@@ -5,10 +5,10 @@ use Rattle.truth.proofs.structure.joint.Statement.{statement}
 use Rattle.truth.proofs.structure.joint.Tie as tie
 
 abbrev Inv-loop : tie.InvT-loop
-Inv-loop m n e share none at₀ s₀ at s = Unit {0}
+Inv-loop m n e share from none at₀ s₀ at s = Unit {0}
 
 abbrev μ-loop : tie.MeasureT-loop
-μ-loop m n e share none at₀ s₀ at s = n - s
+μ-loop m n e share from none at₀ s₀ at s = n - s
 
 nodes-requires : tie.Need-nodes-requires Inv-loop μ-loop
 nodes-requires c κs = search needs
@@ -22,6 +22,9 @@ returns c = search needs
 div-share : tie.Need-div-share Inv-loop μ-loop
 div-share c = search needs
 
+edges-from-requires : tie.Need-edges-from-requires Inv-loop μ-loop
+edges-from-requires c κs = search needs
+
 no-targets-requires : tie.Need-no-targets-requires Inv-loop μ-loop
 no-targets-requires c κs = search needs
 
@@ -31,17 +34,8 @@ loop-holds c = search needs
 add-s : tie.Need-add-s Inv-loop μ-loop
 add-s c = search needs
 
-node-word-requires : tie.Need-node-word-requires Inv-loop μ-loop
-node-word-requires c κs = search needs
-
-cast-targets-along : tie.Need-cast-targets-along Inv-loop μ-loop
-cast-targets-along c = search needs
-
-mul-targets-along : tie.Need-mul-targets-along Inv-loop μ-loop
-mul-targets-along c = search needs
-
-add-targets-along : tie.Need-add-targets-along Inv-loop μ-loop
-add-targets-along c = search needs
+first-edge-requires : tie.Need-first-edge-requires Inv-loop μ-loop
+first-edge-requires c κs = search needs
 
 targets-along-requires : tie.Need-targets-along-requires Inv-loop μ-loop
 targets-along-requires c κs = search needs
@@ -74,13 +68,11 @@ joint-spec =
     edges-requires
     returns
     div-share
+    edges-from-requires
     no-targets-requires
     loop-holds
     add-s
-    node-word-requires
-    cast-targets-along
-    mul-targets-along
-    add-targets-along
+    first-edge-requires
     targets-along-requires
     loop-less
     loop-again

@@ -30,8 +30,8 @@ loop-holds c =
 add-s : tie.Need-add-s Inv-loop μ-loop
 add-s c = omega arith
 
-node-word-requires : tie.Need-node-word-requires Inv-loop μ-loop
-node-word-requires c κs = omega arith
+start-flag-requires : tie.Need-start-flag-requires Inv-loop μ-loop
+start-flag-requires c κs = omega arith
 
 with-requires : tie.Need-with-requires Inv-loop μ-loop
 with-requires c κs = omega arith
@@ -43,7 +43,7 @@ loop-again : tie.Need-loop-again Inv-loop μ-loop
 unfolding startFlag
 loop-again c =
     let a = c .before .before .before .before .before .before .before .before .args in
-    (omega arith, λ i. c .with .ensures i ∙ sofar-yes (λ k. eqb (startFlag (a .m .now) k) 1) i _ _ (c .before .before .before .before .loop .inv .1 i) (eq-eqb _ 1 (sym (c .before .before .node-word .ensures) ∙ c .before .if1 .taken)))
+    (omega arith, λ i. c .with .ensures i ∙ sofar-yes (λ k. eqb (startFlag (a .m .now) k) 1) i _ _ (c .before .before .before .before .loop .inv .1 i) (eq-eqb _ 1 (sym (c .before .before .start-flag .ensures) ∙ c .before .if1 .taken)))
 
 loop-less-2 : tie.Need-loop-less-2 Inv-loop μ-loop
 loop-less-2 c = omega arith
@@ -52,7 +52,7 @@ loop-again-2 : tie.Need-loop-again-2 Inv-loop μ-loop
 unfolding startFlag
 loop-again-2 c =
     let a = c .before .before .before .before .before .before .before .args in
-    (omega arith, λ i. sofar-no (λ k. eqb (startFlag (a .m .now) k) 1) i _ _ (c .before .before .before .loop .inv .1 i) (ne-eqb _ 1 (λ e. c .if1 .left (c .before .node-word .ensures ∙ e))))
+    (omega arith, λ i. sofar-no (λ k. eqb (startFlag (a .m .now) k) 1) i _ _ (c .before .before .before .loop .inv .1 i) (ne-eqb _ 1 (λ e. c .if1 .left (c .before .start-flag .ensures ∙ e))))
 
 returns : tie.Need-returns Inv-loop μ-loop
 returns c i =
@@ -69,7 +69,7 @@ start-row-spec =
     empty-requires
     loop-holds
     add-s
-    node-word-requires
+    start-flag-requires
     with-requires
     loop-less
     loop-again

@@ -1,0 +1,112 @@
+-- A machine sheet whose node records have a given form: a Kripke structure (document 002, definition 3), and the questions headed Machine.
+-- A plain machine sheet is `Machine`'s, which names these of the form `plain`.
+use Prim.Native.Nat.{ℕ, _-_, _^_}
+use mathlib.Core.List.{List, [], _∷_}
+use mathlib.Core.Bool.{Bool, not, _&&_}
+use lib.ListN.{length}
+use lib.Dec.{leb, ltb, eqb}
+use Rattle.sheets.specs.Format.{nodesMost, signalsMost, edgesMost, machineHeader, edgeWords, edgeTargetPlace, edgeNextPlace, edgesFrom, formLength}
+use Rattle.sheets.specs.Structures.{Kripke}
+use Rattle.sheets.specs.Words.{word, bit, within, each, anyOf, chain, link}
+use Rattle.sheets.specs.Records.{recordWord}
+use Rattle.sheets.specs.Questions.{Question, ask}
+use Rattle.sheets.specs.declared.format.NodeForm.{NodeForm}
+
+-- the header: n, a and e
+unfoldable pub nodes : List ℕ → ℕ
+unfolding word
+nodes M = word M 0
+
+unfoldable pub signals : List ℕ → ℕ
+unfolding word
+signals M = word M 1
+
+unfoldable pub edges : List ℕ → ℕ
+unfolding word
+edges M = word M 2
+
+-- "Are there at least 3 words, and are n, a, e in range?"
+unfoldable pub q1 : List ℕ → Bool
+unfolding within nodes signals edges
+q1 M = leb machineHeader (length M) && within 1 nodesMost (nodes M) && within 1 signalsMost (signals M) && within 1 edgesMost (edges M)
+
+module _ (F : NodeForm) (M : List ℕ) where
+  -- word k of the record of node s, and of edge record x
+  unfoldable pub nodeWord : ℕ → ℕ → ℕ
+  unfolding recordWord
+  nodeWord s k = recordWord M machineHeader (F .words) s k
+
+  unfoldable pub edgeWord : ℕ → ℕ → ℕ
+  unfolding recordWord nodes
+  edgeWord x k = recordWord M (edgesFrom F (nodes M)) edgeWords x k
+
+  -- signal i at node s
+  unfoldable pub signalAt : ℕ → ℕ → Bool
+  unfolding nodeWord bit
+  signalAt i s = bit (nodeWord s (F .signals)) (i - 1)
+
+  -- the start flag of node s: 1 at a start node
+  unfoldable pub startFlag : ℕ → ℕ
+  unfolding nodeWord
+  startFlag s = nodeWord s (F .flag)
+
+  -- the first edge record of node s
+  unfoldable pub firstEdge : ℕ → ℕ
+  unfolding nodeWord
+  firstEdge s = nodeWord s (F .first)
+
+  -- the node that edge record x leads to, and the record after it
+  unfoldable pub target : ℕ → ℕ
+  unfolding edgeWord
+  target x = edgeWord x edgeTargetPlace
+
+  unfoldable pub nextEdge : ℕ → ℕ
+  unfolding edgeWord
+  nextEdge x = edgeWord x edgeNextPlace
+
+  -- the edge records of node s
+  unfoldable pub edgesOf : ℕ → List ℕ
+  unfolding chain edges nextEdge firstEdge
+  edgesOf s = chain (edges M) nextEdge (firstEdge s)
+
+  -- the structure: a target met twice is one edge of R
+  unfoldable pub kripke : Kripke
+  unfolding nodes signalAt anyOf edgesOf target startFlag within
+  kripke = record {
+    nodes = nodes M;
+    signal = signalAt;
+    edge = λ s t. anyOf (edgesOf s) (λ x. eqb (target x) t);
+    start = λ s. within 1 (nodes M) s && eqb (startFlag s) 1;
+  }
+
+  -- ---- the questions
+
+  -- "Is the length exactly 3 + 3n + 2e?"
+  unfoldable pub q2 : Bool
+  unfolding nodes edges
+  q2 = eqb (length M) (formLength F (nodes M) (edges M))
+
+  -- "Are the signal bits from bit a up zero, and is each flag 0 or 1?"
+  unfoldable pub q3 : Bool
+  unfolding each nodes nodeWord signals startFlag
+  q3 = each (nodes M) (λ s. ltb (nodeWord s (F .signals)) (2 ^ signals M) && leb (startFlag s) 1)
+
+  -- "Is each first edge in 1 to e?"
+  unfoldable pub q4 : Bool
+  unfolding each nodes within edges firstEdge
+  q4 = each (nodes M) (λ s. within 1 (edges M) (firstEdge s))
+
+  -- "Is each edge's target in 1 to n, and its next zero, or above its own number and at most e?"
+  unfoldable pub q5 : Bool
+  unfolding each edges within nodes target link nextEdge
+  q5 = each (edges M) (λ x. within 1 (nodes M) (target x) && link (edges M) x (nextEdge x))
+
+  -- "Is there a start node?"
+  unfoldable pub q6 : Bool
+  unfolding each nodes startFlag
+  q6 = not (each (nodes M) (λ s. eqb (startFlag s) 0))
+
+  -- the questions headed Machine, put to the machine sheet of number i among the sheets of a call
+  unfoldable pub machineQuestions : ℕ → List Question
+  unfolding q1 q2 q3 q4 q5 q6
+  machineQuestions i = ask 1 i (q1 M) ∷ ask 2 i q2 ∷ ask 3 i q3 ∷ ask 4 i q4 ∷ ask 5 i q5 ∷ ask 6 i q6 ∷ []
