@@ -24,15 +24,16 @@ use Rattle.comparison.proofs.MarkedMachines.{case-a, case-b, case-c, case-d}
 use Rattle.text.specs.declared.line.Line.{Line}
 use Rattle.input.specs.Bytes.{bytesOf}
 use Rattle.input.specs.Lines.{text}
+use Rattle.input.specs.Limits.{nodesMost, ruleSpace}
 use Rattle.compare.specs.Program.{lineBytes, Printed}
 use Rattle.compare.proofs.PrintedLines.{case-a as printed-a}
 
 abbrev Answers : (M₁ M₂ : List ℕ) → Answer → Type 0
 Answers M₁ M₂ x =
-    (before after : List ℕ) (answer : Answer) → 33 + 6 * (signals M₁ + 7 * (nodes M₁ + nodes M₂)) ≤ length before → CompareAnswer M₁ M₂ before after answer → answer ≡ x
+    (before after : List ℕ) (answer : Answer) → ruleSpace (signals M₁) (nodes M₁ + nodes M₂) ≤ length before → CompareAnswer M₁ M₂ before after answer → answer ≡ x
 
-module _ (M₁ M₂ : List ℕ) (ok₁ : machineRefusal M₁ ≡ 0) (ok₂ : machineRefusal M₂ ≡ 0) (alike : signals M₁ ≡ signals M₂) (few : nodes M₁ + nodes M₂ ≤ 128) where
-  decided : (before after : List ℕ) (answer : Answer) → 33 + 6 * (signals M₁ + 7 * (nodes M₁ + nodes M₂)) ≤ length before → CompareAnswer M₁ M₂ before after answer
+module _ (M₁ M₂ : List ℕ) (ok₁ : machineRefusal M₁ ≡ 0) (ok₂ : machineRefusal M₂ ≡ 0) (alike : signals M₁ ≡ signals M₂) (few : nodes M₁ + nodes M₂ ≤ nodesMost) where
+  decided : (before after : List ℕ) (answer : Answer) → ruleSpace (signals M₁) (nodes M₁ + nodes M₂) ≤ length before → CompareAnswer M₁ M₂ before after answer
       → Decides M₁ M₂ answer
   decided before after answer room =
       decides M₁ M₂ before after

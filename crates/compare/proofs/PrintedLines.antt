@@ -12,7 +12,7 @@ use Rattle.truth.specs.Passed.{M1, M2, Refusal, none as noRefusal, machineQuest
 use Rattle.truth.proofs.Passed.{first-has, signals-sized, machine-cases}
 use Rattle.text.specs.declared.line.Line.{Line}
 use Rattle.text.proofs.HeldLines.{held-text}
-use Rattle.input.specs.Limits.{machinesBytes, ruleWords}
+use Rattle.input.specs.Limits.{nodesMost, machinesBytes, ruleWords}
 use Rattle.input.specs.Bytes.{readable, wordsOf, bytesOf}
 use Rattle.input.specs.Cut.{firstSheet, secondSheet}
 use Rattle.input.specs.Lines.{text, refusedLine}
@@ -35,13 +35,13 @@ unfolding machineRefusal machineQuestions
 one-to-six M refused = first-has (λ k i. k ≤ 6) (machineQuestions 1 M) (omega arith) refused
 
 module _ (M₁ M₂ : List ℕ) where
-  -- the space is enough for two accepted sheets with few nodes together: 33 + 6 × (16 + 7 × 128)
+  -- the space is enough for two accepted sheets with few nodes together
   last-no : machineRefusal M₁ ≡ 0 → machineRefusal M₂ ≡ 0 → refusal M₁ M₂ .number ≡ 22 → ⊥
   unfolding refusal
   last-no ok₁ ok₂ e =
       let last = by-last M₁ M₂ ruleWords 0 (sym ok₁) refl 0 (sym ok₂) refl in
       by-cases (ℕ-discrete (signals M₁) (signals M₂))
-      (λ same. by-cases (decLe (nodes M₁ + nodes M₂) 128)
+      (λ same. by-cases (decLe (nodes M₁ + nodes M₂) nodesMost)
       (λ few. let most = signals-sized M₁ ok₁ .1 in omega (arith, last 0 (by-none M₁ M₂ ruleWords same few (omega arith)) .0))
       (λ many. omega (arith, last 21 (by-nodes M₁ M₂ ruleWords same (omega arith)) .0)))
       (λ other. omega (arith, last 20 (by-signals M₁ M₂ ruleWords other) .0))
@@ -110,7 +110,7 @@ module _ (bytes : List ℕ) where
     pub one : machineRefusal first ≡ 0
     pub two : machineRefusal second ≡ 0
     pub same : signals first ≡ signals second
-    pub few : nodes first + nodes second ≤ 128
+    pub few : nodes first + nodes second ≤ nodesMost
     pub equal : Comparison.Equal first second
 
   module _ (line : Line) (p : Printed bytes line) where

@@ -21,8 +21,8 @@ lineBytes (Refused q i) = refusedLine q i
 lineBytes Equal = 101 ∷ 113 ∷ 117 ∷ 97 ∷ 108 ∷ 10 ∷ []
 lineBytes Unequal = 117 ∷ 110 ∷ 101 ∷ 113 ∷ 117 ∷ 97 ∷ 108 ∷ 10 ∷ []
 
--- the refusal of two sheets by the first question of comparison that says no; the program's space for the rule has 5,505 words,
--- 33 + 6 × (16 + 7 × 128), so that question 22 is never that one (theorem `never-22`)
+-- the refusal of two sheets by the first question of comparison that says no; the program's space for the rule is the longest that
+-- there is, so that question 22 is never that one (theorem `never-22`)
 unfoldable pub refusal : List ℕ → List ℕ → Refusal
 unfolding firstNo comparisonQuestions
 refusal M₁ M₂ = firstNo (comparisonQuestions M₁ M₂ ruleWords)

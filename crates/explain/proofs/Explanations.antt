@@ -3,6 +3,7 @@ use mathlib.Core.Path.{_≡_, subst, sym, _∙_}
 use Prim.Native.Nat.{ℕ, _+_, _*_, _≤_}
 use mathlib.Core.List.{List}
 use lib.ListN.{length, take}
+use Rattle.sheets.specs.Format.{lineWords, nextHead}
 use Rattle.sheets.specs.Questions.{none, firstNo}
 use Rattle.sheets.specs.Rules.{lines}
 use Rattle.comparison.specs.Comparison.{Written}
@@ -19,7 +20,7 @@ module _ (M₁ M₂ before after : List ℕ) (answer : Answer) (compared : Compa
   pub explained-plain : (said : Explanation) → said .answer ≡ answer → (answer ≡ Unequal → ⊥) → Explained M₁ M₂ before after said
   explained-plain said is other = record { compared = rw is compared; judged = λ e. absurd (other (sym is ∙ e)) }
 
-  module _ (e : answer ≡ Unequal) (end : ℕ) (ends : end ≡ 33 + 6 * lines after) where
+  module _ (e : answer ≡ Unequal) (end : ℕ) (ends : end ≡ nextHead + lineWords * lines after) where
     told : CompareAnswer M₁ M₂ before after Unequal
     told = subst (CompareAnswer M₁ M₂ before after) e compared
 

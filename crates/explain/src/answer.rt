@@ -1,6 +1,7 @@
 // What is said of the input: the comparison's answer, and where the two are unequal a verdict on the rule that is left in the space.
 ghost use mathlib.Core.Path.{_≡_};
 ghost use Prim.Native.Nat.{_+_, _*_};
+ghost use Rattle.sheets.specs.Format.{lineWords, nextHead};
 ghost use Rattle.sheets.specs.Rules.{lines};
 ghost use Rattle.explain.specs.Program.{Explained, Answered};
 use crate::verdict;
@@ -9,6 +10,7 @@ use comparison::compare;
 use comparison::compare::Answer;
 use input::cut;
 use input::limits;
+use sheets::format;
 use sheets::rules;
 
 // The verdict is one only where the answer is unequal; otherwise its node is 0.
@@ -30,11 +32,13 @@ fn plain(answer: Answer) -> Explanation
     }
 }
 
+const LINE_WORDS: usize = format::LINE_WORDS as usize;
+
 // How many words at the head of the space are the written rule's.
 fn rule_end(space: &[u16]) -> usize
-    ensures { λ r. ⌜ r ≡ 33 + 6 * lines (now (space .entry)) ⌝ }
+    ensures { λ r. ⌜ r ≡ nextHead + lineWords * lines (now (space .entry)) ⌝ }
 {
-    33 + 6 * (rules::lines(space) as usize)
+    format::NEXT_HEAD + LINE_WORDS * (rules::lines(space) as usize)
 }
 
 // What is said of two sheets.

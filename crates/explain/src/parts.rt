@@ -1,5 +1,6 @@
 // The parts of a line: what holds together exactly where the line holds, or exactly where it does not. A line that says "not" is what
 // it denies, the other way round; "neither" of two lines is taken apart into both.
+use sheets::format;
 use sheets::lines;
 use sheets::lines::Decoded;
 use sheets::lines::Line;
@@ -35,7 +36,7 @@ pub const HOLDS: u8 = 1;
 pub const FAILS: u8 = 2;
 
 // How many lines have a mark: a written rule has fewer.
-pub const MARKS: usize = 1024;
+pub const MARKS: usize = format::LINES;
 
 // The signals that are on and those that are off, bit i - 1 for signal i, and how many lines stay marked as parts. `room` is how many
 // more lines may be taken apart.
@@ -80,7 +81,7 @@ fn bit(i: u16) -> u16 {
     if i == 0 {
         return 0;
     }
-    1 << ((i - 1) % 16)
+    1 << ((i - 1) % format::WORD_BITS)
 }
 
 fn with_signal(p: Parts, i: u16, mark: u8) -> Parts {

@@ -3,12 +3,14 @@
 ghost use mathlib.Core.Path.{_≡_};
 ghost use Prim.Native.Nat.{_<_};
 ghost use lib.ListN.{length};
+ghost use Rattle.sheets.specs.Format.{wordBits};
 ghost use Rattle.explain.specs.Pages.{pageSize, Follows, Narrow};
 use crate::page;
 use crate::page::Cursor;
 use crate::parts;
 use crate::parts::Parts;
 use crate::parts::Says;
+use sheets::format;
 use sheets::rules;
 
 // ---- signals
@@ -28,7 +30,7 @@ fn between(page: &mut [u8; page::SIZE], c: Cursor, left: u32, pair: bool) -> Cur
 
 // The number of signal i + 1, if it is in the set; `pair` where two are in it and neither is on.
 fn put_signal(page: &mut [u8; page::SIZE], c: Cursor, set: u16, i: u16, pair: bool) -> Cursor
-    requires { ⌜ i < 16 ⌝ }
+    requires { ⌜ i < wordBits ⌝ }
     ensures { λ r. ⌜ Follows (now (page .entry)) c (now (page .exit)) r ⌝ }
 {
     let from = set >> i;
@@ -49,7 +51,7 @@ fn numbers(page: &mut [u8; page::SIZE], c: Cursor, set: u16, pair: bool) -> Curs
 {
     let mut c = c;
     let mut i: u16 = 0;
-    while i < 16 {
+    while i < format::WORD_BITS {
         c = put_signal(page, c, set, i, pair);
         i += 1;
     }

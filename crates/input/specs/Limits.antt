@@ -1,9 +1,11 @@
--- How much the programs take and lend: words and bytes of sheets, bytes of a text, words of a written rule.
+-- How much the programs take and lend: words and bytes of sheets, bytes of a text, and space for what is answered.
 use Prim.Native.Nat.{ℕ, _*_}
+use Rattle.sheets.specs.Format.{linesMost, sheetsLongest, ruleSpaceLongest}
+pub use Rattle.sheets.specs.Format.{nodesMost, ruleSpace}
 
 -- the longest machine sheet with the longest rule sheet; one sheet alone may be as long
 abbrev pub sheetsWords : ℕ
-sheetsWords = 14503
+sheetsWords = sheetsLongest
 
 abbrev pub sheetsBytes : ℕ
 sheetsBytes = 2 * sheetsWords
@@ -19,6 +21,9 @@ machinesBytes = 2 * machinesWords
 abbrev pub textBytes : ℕ
 textBytes = 200000
 
--- the written rule for the most signals and nodes
+-- space for the longest written rule, and for the rows of the most lines, two words a line
 abbrev pub ruleWords : ℕ
-ruleWords = 5505
+ruleWords = ruleSpaceLongest
+
+abbrev pub rowsWords : ℕ
+rowsWords = 2 * linesMost

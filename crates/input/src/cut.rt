@@ -4,6 +4,7 @@ ghost use Prim.Native.Nat.{_≤_};
 ghost use lib.ListN.{length, take};
 ghost use Rattle.input.specs.Cut.{headerEnd, firstEnd, Inside, firstIn, secondIn, wholeIn, TwoSheets};
 use crate::bytes;
+use sheets::format;
 use sheets::machine;
 
 // Where the two sheets of the input stand in the words: the first up to `end`, and the second from there to `count`. The bytes are
@@ -18,7 +19,7 @@ pub struct Cut {
 fn header_end(words: &[u16]) -> usize
     ensures { λ r. ⌜ r ≡ headerEnd (now (words .entry)) ⌝ }
 {
-    3 + 3 * (machine::nodes(words) as usize) + 2 * (machine::edges(words) as usize)
+    format::machine_length(format::PLAIN, machine::nodes(words), machine::edges(words))
 }
 
 // How many words are the first sheet's; the rest are the second's.

@@ -1,7 +1,8 @@
-// How much the programs take and lend: words and bytes of sheets, bytes of a text, words of a written rule.
+// How much the programs take and lend: words and bytes of sheets, bytes of a text, and space for what is answered.
+use sheets::format;
 
 // The longest machine sheet with the longest rule sheet; one sheet alone may be as long.
-pub const SHEETS_WORDS: usize = 14503;
+pub const SHEETS_WORDS: usize = format::SHEETS_LONGEST;
 
 pub const SHEETS_BYTES: usize = 2 * SHEETS_WORDS;
 
@@ -13,5 +14,9 @@ pub const MACHINES_BYTES: usize = 2 * MACHINES_WORDS;
 // The text of a sheet.
 pub const TEXT_BYTES: usize = 200000;
 
-// The written rule for the most signals and nodes.
-pub const RULE_WORDS: usize = 5505;
+// Space for the longest written rule, for the rows of the most lines, two words a line, and for a path, with each node in each state once.
+pub const RULE_WORDS: usize = format::RULE_SPACE_LONGEST;
+
+pub const ROWS_WORDS: usize = 2 * format::LINES;
+
+pub const PATH_PAIRS: usize = format::NODES * format::CHAINED;

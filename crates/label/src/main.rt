@@ -7,11 +7,11 @@ use input::limits;
 use libc::STDIN_FILENO;
 use truth::labelling::Labelled;
 
-// Reads one byte more than is taken, so that a longer input is noticed. The rows have space for 1,024 lines.
+// Reads one byte more than is taken, so that a longer input is noticed.
 fn main() {
     let mut input = [0u8; limits::SHEETS_BYTES + 1];
     let n = io::read_full(STDIN_FILENO, &mut input);
-    let mut rows = [0u64; 2048];
+    let mut rows = [0u64; limits::ROWS_WORDS];
     let answer = answer::answer_to(&input[..n], &mut rows);
     let labelled = answer.labelled;
     match labelled {
