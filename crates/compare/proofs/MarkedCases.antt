@@ -15,7 +15,7 @@ use Rattle.truth.specs.Worked.{EvenSheet, OneState, Labels}
 use Rattle.truth.proofs.Passed.{machine-cases, rule-cases}
 use Rattle.truth.proofs.MarkedCases.{case-e-true, case-e-false, case-e, case-f-true, case-f-false, case-f-kept, case-f-broken, case-k}
 use Rattle.comparison.specs.Comparison.{Equal}
-use Rattle.comparison.specs.Answers.{CompareAnswer}
+use Rattle.comparison.specs.CompareAnswers.{CompareAnswer}
 use Rattle.comparison.specs.declared.compare.Answer.{Answer}
 use Rattle.comparison.specs.declared.compare.Answer.the-variants.{Equal as saysEqual, Unequal as saysUnequal}
 use Rattle.comparison.proofs.CompareTable.{refuses-nothing}

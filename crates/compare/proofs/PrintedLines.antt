@@ -20,7 +20,7 @@ use Rattle.input.proofs.Cuts.{by-reply}
 use Rattle.input.proofs.JoinedSheets.{joined-readable, joined-first, joined-second}
 use Rattle.input.proofs.WorkedInput.{input-cases}
 use Rattle.comparison.specs.Comparison as Comparison
-use Rattle.comparison.specs.Answers.{refusalOf}
+use Rattle.comparison.specs.CompareAnswers.{refusalOf}
 use Rattle.comparison.specs.declared.compare.Answer.{Answer}
 use Rattle.comparison.specs.declared.compare.Answer.the-variants.{Refused, Equal, Unequal}
 use Rattle.comparison.proofs.CompareTable.{by-first, by-second, by-last, by-signals, by-nodes, by-none, compared, refuses-nothing}

@@ -10,7 +10,7 @@ use Rattle.input.specs.Limits.{machinesBytes, ruleWords}
 use Rattle.input.specs.Replies.{Reply}
 use Rattle.input.specs.Lines.{refusedLine}
 use Rattle.comparison.specs.Comparison as Comparison
-use Rattle.comparison.specs.Answers.{comparisonQuestions, refusalOf}
+use Rattle.comparison.specs.CompareAnswers.{comparisonQuestions, refusalOf}
 use Rattle.comparison.specs.declared.compare.Answer.{Answer}
 use Rattle.comparison.specs.declared.compare.Answer.the-variants.{Refused, Equal, Unequal}
 

@@ -7,12 +7,12 @@ use lib.ListN.{length, getD, drop, length-append}
 use Rattle.truth.specs.Passed.{none, firstNo, nodes, signals}
 use Rattle.truth.specs.Rows.{rowsHas}
 use Rattle.truth.proofs.Passed.{nodes-sized}
-use Rattle.comparison.specs.Lines.{Entry, neg, sheet, Downward, Holds, Adds}
+use Rattle.comparison.specs.Lines.{Entry, neg, sheet, Downward, HoldsLines, Adds}
 use Rattle.comparison.specs.Needed.{Shortened, Listed}
 use Rattle.comparison.specs.Refinement.{LinesIn}
 use Rattle.comparison.specs.Stages.{Partitioned}
 use Rattle.comparison.specs.Sides.{OneSided}
-use Rattle.comparison.specs.Answers.{comparisonQuestions, refusalOf, Leaves, CompareAnswer}
+use Rattle.comparison.specs.CompareAnswers.{comparisonQuestions, refusalOf, Leaves, CompareAnswer}
 use Rattle.comparison.specs.declared.refine.Partition.{Partition}
 use Rattle.comparison.specs.declared.compare.Answer.the-variants.{Refused, Equal, Unequal}
 use Rattle.comparison.proofs.CompareTable.{Compared, compared, none-refused}
@@ -84,7 +84,7 @@ module _ (M₁ M₂ before : List ℕ) where
           unfolding told
           told-count = let number = r .number in omega (arith, length-append (r .ls) (neg (getD (p .line) (c - 1) 0) ∷ []))
 
-          told-holds : Holds w told
+          told-holds : HoldsLines w told
           unfolding told
           told-holds = adds .adds (r .ls) (r .number) (record { size = size; stands = rw (r .number) (r .stands) })
 
@@ -92,7 +92,7 @@ module _ (M₁ M₂ before : List ℕ) where
           listed = record { a = signals M₁; lines = told; down = told-down; holds = told-holds; count = told-count }
 
           pub unequal-answer : (after : List ℕ)
-              → ((a : ℕ) (ls : List Entry) → Downward a ls → Holds w ls → length ls ≡ p .lines + 1
+              → ((a : ℕ) (ls : List Entry) → Downward a ls → HoldsLines w ls → length ls ≡ p .lines + 1
               → (short : List Entry) × Shortened a ls short × (after ≡ sheet short ++ drop (length (sheet short)) before))
               → CompareAnswer M₁ M₂ before after Unequal
           unfolding refusalOf Leaves told

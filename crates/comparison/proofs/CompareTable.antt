@@ -7,10 +7,9 @@ use mathlib.Core.List.{List, _++_}
 use borrow.Author.Tests.{le-leb, lt-leb, eq-eqb, ne-eqb}
 use lib.Dec.{leb→le, eqb→eq}
 use Rattle.truth.specs.Passed.{Refusal, none as noRefusal, Question, firstNo, nodes, signals, machineQuestions, machineRefusal}
-use Rattle.truth.proofs.Passed.{all-yes, found, none, yes, no, none-found}
+use Rattle.truth.proofs.Passed.{all-yes, found, none, yes, no, none-found, PutTo, no-sheet, machine-refused, machine-passed, machine-none}
 use Rattle.comparison.specs.Comparison.{compareQuestions}
-use Rattle.comparison.specs.Answers.{comparisonQuestions}
-use Rattle.comparison.proofs.QuestionTables.{PutTo, no-sheet, refused-by, asked-on, accepted-by}
+use Rattle.comparison.specs.CompareAnswers.{comparisonQuestions}
 
 module _ (M₁ M₂ : List ℕ) (space : ℕ) where
   abbrev lastQuestions : List Question
@@ -28,18 +27,18 @@ module _ (M₁ M₂ : List ℕ) (space : ℕ) where
 
   pub by-first : (a : ℕ) → a ≡ machineRefusal M₁ → (a ≡ 0 → ⊥) → (a ≡ asked .number) × (1 ≡ asked .sheet)
   unfolding comparisonQuestions
-  by-first a e n = refused-by 1 M₁ laterQuestions a e n
+  by-first a e n = machine-refused 1 M₁ laterQuestions a e n
 
   module _ (a : ℕ) (e : a ≡ machineRefusal M₁) (z : a ≡ 0) where
     after-first : asked ≡ firstNo laterQuestions
     unfolding comparisonQuestions
-    after-first = asked-on 1 M₁ laterQuestions (sym e ∙ z)
+    after-first = machine-passed 1 M₁ laterQuestions (sym e ∙ z)
 
     pub by-second : (b : ℕ) → b ≡ machineRefusal M₂ → (b ≡ 0 → ⊥) → (b ≡ asked .number) × (2 ≡ asked .sheet)
-    by-second b f n = rw after-first (refused-by 2 M₂ lastQuestions b f n)
+    by-second b f n = rw after-first (machine-refused 2 M₂ lastQuestions b f n)
 
     pub by-last : (b : ℕ) → b ≡ machineRefusal M₂ → b ≡ 0 → (k : ℕ) → k ≡ firstNo lastQuestions .number → (k ≡ asked .number) × (0 ≡ asked .sheet)
-    by-last b f y k g = rw (after-first ∙ asked-on 2 M₂ lastQuestions (sym f ∙ y)) (g, sym (no-sheet lastQuestions last-put))
+    by-last b f y k g = rw (after-first ∙ machine-passed 2 M₂ lastQuestions (sym f ∙ y)) (g, sym (no-sheet lastQuestions last-put))
 
   -- ---- the last questions
 
@@ -80,13 +79,12 @@ module _ (M₁ M₂ : List ℕ) (space : ℕ) where
     pub compared : Compared
     unfolding comparisonQuestions compareQuestions
     compared =
-        let one = accepted-by 1 M₁ laterQuestions (sym e) in
-        let later = ap (λ (r : Refusal). r .number) (sym (asked-on 1 M₁ laterQuestions one)) ∙ sym e in
-        let two = accepted-by 2 M₂ lastQuestions later in
-        let last = all-yes lastQuestions (ap (λ (r : Refusal). r .number) (sym (asked-on 2 M₂ lastQuestions two)) ∙ later) in
+        let one = machine-none 1 M₁ laterQuestions (sym e) in
+        let two = machine-none 2 M₂ lastQuestions (one .1) in
+        let last = all-yes lastQuestions (two .1) in
         record {
-          first = one;
-          second = two;
+          first = one .0;
+          second = two .0;
           same = eqb→eq (signals M₁) (signals M₂) (last .0);
           few = leb→le (nodes M₁ + nodes M₂) 128 (last .1 .0);
           enough = leb→le room space (last .1 .1 .0);

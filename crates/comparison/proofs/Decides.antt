@@ -8,7 +8,7 @@ use mathlib.Core.List.{List}
 use lib.ListN.{length}
 use Rattle.truth.specs.Passed.{Refusal, firstNo}
 use Rattle.comparison.specs.Comparison as Comparison
-use Rattle.comparison.specs.Answers.{comparisonQuestions, refusalOf, Leaves, CompareAnswer}
+use Rattle.comparison.specs.CompareAnswers.{comparisonQuestions, refusalOf, Leaves, CompareAnswer}
 use Rattle.comparison.specs.declared.compare.Answer.{Answer}
 use Rattle.comparison.specs.declared.compare.Answer.the-variants.{Refused, Equal, Unequal}
 use Rattle.comparison.proofs.Outcome.{never-both}

@@ -13,7 +13,7 @@ use Rattle.truth.specs.Rows.{held, rowsHas}
 use Rattle.truth.proofs.Passed.{and-left, passed, within-in, nodes-sized, signals-sized}
 use Rattle.truth.proofs.tables.TableLaws.{stored-length, stored-here}
 use Rattle.comparison.specs.Bounded.{Bounded}
-use Rattle.comparison.specs.Lines.{firstLines, Holds}
+use Rattle.comparison.specs.Lines.{firstLines, HoldsLines}
 use Rattle.comparison.specs.Tables.{OfNodes}
 use Rattle.comparison.specs.Stages.{Staged}
 use Rattle.comparison.proofs.FirstLines.{first-length, first-entry, begins}
@@ -40,7 +40,7 @@ pub begun : (M₁ M₂ : List ℕ) → machineRefusal M₁ ≡ 0 → machineRefu
     → (a n₁ n₂ : ℕ) → a ≡ signals M₁ → n₁ ≡ nodes M₁ → n₂ ≡ nodes M₂
     → (first₀ first second₀ second line words : List ℕ) (l₁ h₁ l₂ h₂ : ℕ) → length first₀ ≡ 512 → length second₀ ≡ 512 → length line ≡ 256
     → first ≡ set (set first₀ 0 l₁) 1 h₁ → second ≡ set (set second₀ 0 l₂) 1 h₂
-    → ((s : ℕ) → held l₁ h₁ s ≡ (leb s n₁ && within 1 128 s)) → ((s : ℕ) → held l₂ h₂ s ≡ (leb s n₂ && within 1 128 s)) → Holds words (firstLines a)
+    → ((s : ℕ) → held l₁ h₁ s ≡ (leb s n₁ && within 1 128 s)) → ((s : ℕ) → held l₂ h₂ s ≡ (leb s n₂ && within 1 128 s)) → HoldsLines words (firstLines a)
     → Staged M₁ M₂ 5 (record { first = first; second = second; line = set line 0 (a + 2); words = words; count = 1; lines = a + 2 })
 unfolding OfNodes
 begun M₁ M₂ ok₁ ok₂ bounded a n₁ n₂ ea e₁ e₂ first₀ first second₀ second line words l₁ h₁ l₂ h₂ z₁ z₂ z s₁ s₂ r₁ r₂ holds =

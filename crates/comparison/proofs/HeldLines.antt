@@ -6,7 +6,7 @@ use native.Mathlib.Omega.{arith}
 use mathlib.Core.List.{List, [], _∷_, _++_, append-assoc}
 use lib.ListN.{length, set, take, length-append, length-set}
 use lib.Seq.{take-suc-set}
-use Rattle.comparison.specs.Lines.{Entry, sig, neg, alt, words, lineWords, signalLines, everywhere, firstLines, split, Holds, Adds}
+use Rattle.comparison.specs.Lines.{Entry, sig, neg, alt, words, lineWords, signalLines, everywhere, firstLines, split, HoldsLines, Adds}
 use Rattle.comparison.proofs.Lines.{words-below}
 use Rattle.comparison.proofs.FirstLines.{signal-length}
 
@@ -49,7 +49,7 @@ adds-line before after n l size e = record { size = size; adds = λ ls len h. re
         let k : 6 * length ls ≡ 6 * n = omega arith in
         ap (λ (i : ℕ). take i after) m ∙ e ∙ rw (← k, h, words-below)
 
-pub holds-none : (space : List ℕ) → length space ≡ 5632 → Holds space []
+pub holds-none : (space : List ℕ) → length space ≡ 5632 → HoldsLines space []
 unfolding lineWords
 holds-none space size = record { size = size; stands = refl }
 
@@ -62,11 +62,11 @@ adds-then a b c n m xs ys f e g = record {
 
 -- ---- the first lines
 
-pub holds-signal : (before after : List ℕ) (i : ℕ) → Holds before (signalLines i) → Adds before after i (sig (i + 1) ∷ []) → Holds after (signalLines (i + 1))
+pub holds-signal : (before after : List ℕ) (i : ℕ) → HoldsLines before (signalLines i) → Adds before after i (sig (i + 1) ∷ []) → HoldsLines after (signalLines (i + 1))
 unfolding signalLines
 holds-signal before after i h f = rw (add-one, ← add-one i) (f .adds (signalLines i) (signal-length i) h)
 
-pub holds-first : (a b c : List ℕ) (n : ℕ) → Holds a (signalLines n) → Adds a b n (neg 1 ∷ []) → Adds b c (n + 1) (alt 1 (n + 1) ∷ []) → Holds c (firstLines n)
+pub holds-first : (a b c : List ℕ) (n : ℕ) → HoldsLines a (signalLines n) → Adds a b n (neg 1 ∷ []) → Adds b c (n + 1) (alt 1 (n + 1) ∷ []) → HoldsLines c (firstLines n)
 unfolding firstLines everywhere
 holds-first a b c n h f g =
     rw signal-length (adds-then a b c n (n + 1) (neg 1 ∷ []) (alt 1 (n + 1) ∷ []) f (omega arith) g .adds (signalLines n) (signal-length n) h)

@@ -26,7 +26,6 @@ pub mod Surveys
 pub mod TurningBlocks
 pub mod SettlingBlocks
 pub mod FirstStage
-pub mod QuestionTables
 pub mod CompareTable
 pub mod StartBlocks
 pub mod PastedSheet

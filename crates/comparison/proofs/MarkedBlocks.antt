@@ -11,17 +11,17 @@ use Rattle.truth.specs.Rows.{leadsInto, marksInto}
 use Rattle.truth.proofs.Passed.{and-right, passed, failed, within-in, nodes-sized, edge-stays}
 use Rattle.truth.proofs.structure.TargetRows.{leads-into}
 use Rattle.comparison.specs.Blocks.{Members, In, Covers, Disjoint}
-use Rattle.comparison.specs.Signatures.{Marked}
+use Rattle.comparison.specs.Signatures.{BlockMarks}
 
 pub same-test : (a b : Bool) → (T a → T b) → (T b → T a) → a ≡ b
 same-test true b f g = sym (passed b (f tt))
 same-test false b f g = sym (failed b (not-T b (λ t. g t)))
 
 module _ (M : List ℕ) (ok : machineRefusal M ≡ 0) (mem : Members) (n : ℕ) (covers : Covers M mem n) (once : Disjoint M mem n) (mark : List ℕ)
-    (marked : Marked mem n mark) where
+    (marked : BlockMarks mem n mark) where
   -- the mark of a node is that of its block
   own-mark : (t : ℕ) → 1 ≤ t → t ≤ nodes M → (b : ℕ) × (b < n) × (getD mark t 0 ≡ b + 1) × T (mem b t)
-  unfolding Covers Marked
+  unfolding Covers BlockMarks
   own-mark t lo hi = let c = covers t lo hi in marked (c .0) t (c .1) (c .2)
 
   mark-test : (t : ℕ) → 1 ≤ t → t ≤ nodes M → (d : ℕ) → d < n → (within 1 128 t && eqb (getD mark t 0) (d + 1)) ≡ mem d t

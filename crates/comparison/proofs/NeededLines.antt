@@ -8,7 +8,7 @@ use mathlib.Core.List.{List, [], _∷_, _++_}
 use lib.ListN.{length, getD, set, length-set, length-append}
 use lib.Seq.{getD-set-same, getD-set-other}
 use Rattle.truth.specs.Passed.{nodes, machineRefusal}
-use Rattle.comparison.specs.Lines.{Entry, sig, neg, alt, next, entry, Refers, Downward, Holds, Adds}
+use Rattle.comparison.specs.Lines.{Entry, sig, neg, alt, next, entry, Refers, Downward, HoldsLines, Adds}
 use Rattle.comparison.specs.Blocks.{TrueIn}
 use Rattle.comparison.specs.Needed.{renumber, marks, EachLine, SomeLine, Same, AllStand, Wanted, Closed, Copied, Needs, itself, through, Shortened}
 use Rattle.comparison.proofs.TrueLines.{true-says}
@@ -323,7 +323,7 @@ used a ls same needed number out j c x k n e w =
 
 -- the lines that the last line needs
 pub shortened : (a : ℕ) (ls : List Entry) (same needed number out : List ℕ) (j c : ℕ) → 1 ≤ length ls → AllStand ls (length ls) same → j ≡ getD same (length ls) 0
-    → Closed ls same 0 j needed → c ≤ j → Copied a ls same needed j number out c → (short : List Entry) × Shortened a ls short × Holds out short × (length short ≡ c)
+    → Closed ls same 0 j needed → c ≤ j → Copied a ls same needed j number out c → (short : List Entry) × Shortened a ls short × HoldsLines out short × (length short ≡ c)
 shortened a ls same needed number out j c some stands e closed few x =
     let st = stands (length ls) some (omega arith) in
     let l : 1 ≤ j = rw e (st .low) in

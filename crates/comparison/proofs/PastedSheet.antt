@@ -7,7 +7,7 @@ use mathlib.Core.List.{List, _++_}
 use lib.ListN.{length, getD, set, take, drop}
 use lib.Seq.{paste, paste-suc, take-at, drop-at, drop-drop}
 use Rattle.comparison.specs.Comparison.{nextWords}
-use Rattle.comparison.specs.Lines.{Entry, lineWords, head, sheet, Holds}
+use Rattle.comparison.specs.Lines.{Entry, lineWords, head, sheet, HoldsLines}
 use Rattle.comparison.proofs.Lines.{length-sheet}
 
 pub pasted : (d d′ : List ℕ) (at : ℕ) (s : List ℕ) (i : ℕ) → d′ ≡ paste d at s i → at + i < length d → i < length s → set d′ (at + i) (getD s i 0) ≡ paste d at s (i + 1)
@@ -25,7 +25,7 @@ unfolding head nextWords
 head-put S S₁ n e = rw e
 
 -- the words of so many lines
-pub held : {w : List ℕ} {ls : List Entry} {n : ℕ} → Holds w ls → length ls ≡ n → take (6 * n) w ≡ lineWords ls
+pub held : {w : List ℕ} {ls : List Entry} {n : ℕ} → HoldsLines w ls → length ls ≡ n → take (6 * n) w ≡ lineWords ls
 held h len = rw len at (h .stands)
 
 module _ (S S₁ S₂ w : List ℕ) (n : ℕ) (h₁ : S₁ ≡ head n ++ drop 33 S) (h₂ : S₂ ≡ paste S₁ 33 w (6 * n)) where

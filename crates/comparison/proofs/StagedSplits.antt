@@ -6,7 +6,7 @@ use mathlib.Core.List.{List, _++_}
 use mathlib.Core.Bool.{Bool, not}
 use lib.ListN.{length}
 use Rattle.truth.specs.Passed.{signals}
-use Rattle.comparison.specs.Lines.{Entry, split, Holds}
+use Rattle.comparison.specs.Lines.{Entry, split, HoldsLines}
 use Rattle.comparison.specs.Blocks.{Members, Split}
 use Rattle.comparison.specs.Refinement.{LinesIn, Refinement, Parted, Lined}
 use Rattle.comparison.specs.Tables.{State, firstOf, secondOf, lineOf, Room, SplitBlock, OfNodes}
@@ -125,7 +125,7 @@ module _ (M₁ M₂ : List ℕ) (spare : ℕ) (st : State) (p : ℕ) (x₁ x₂ 
           sizeLine = b .line .size;
           ls = lines′;
           number = omega arith;
-          holds = subst (λ (k : ℕ). Holds (st′ .words) (s .ls ++ split k (lineOf st c) p)) (sym number) (b .words .adds (s .ls) number (s .holds));
+          holds = subst (λ (k : ℕ). HoldsLines (st′ .words) (s .ls ++ split k (lineOf st c) p)) (sym number) (b .words .adds (s .ls) number (s .holds));
           refinement = refinement′;
           ofNodes = λ d l.
               let o = finer-split st st′ c p x₁ x₂ h b .part d l in

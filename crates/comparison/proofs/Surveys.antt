@@ -18,7 +18,7 @@ use Rattle.truth.proofs.rows.RowWalks.{Less, less-in, less-or, less-falls, Sort
 use Rattle.comparison.specs.Blocks.{Members, In, AllIn, Meets, Unsplit, Split}
 use Rattle.comparison.specs.Refinement.{Parted}
 use Rattle.comparison.specs.Tables.{OfNodes}
-use Rattle.comparison.specs.Signatures.{MarkedRow, Marked, TellsApart, TellsUnlike, Alone, Led, TellsMark}
+use Rattle.comparison.specs.Signatures.{MarkedRow, BlockMarks, TellsApart, TellsUnlike, Alone, Led, TellsMark}
 use Rattle.comparison.specs.declared.signatures.Lead.{Lead}
 use Rattle.comparison.proofs.MarkedBlocks.{same-test}
 
@@ -69,14 +69,14 @@ marked-as row q e before after same m = record {
   others = λ s n. m .others s (λ t. n (rw (same s) at t));
 }
 
-pub marked-none : (mem : Members) (mark : List ℕ) → Marked mem 0 mark
-unfolding Marked
+pub marked-none : (mem : Members) (mark : List ℕ) → BlockMarks mem 0 mark
+unfolding BlockMarks
 marked-none mem mark c s h t = absurd (omega arith)
 
 -- one row more
-pub marked-more : (mem : Members) (c : ℕ) (mark mark′ : List ℕ) (row : ℕ → Bool) → ((s : ℕ) → row s ≡ mem c s) → Marked mem c mark → MarkedRow row (c + 1) mark mark′
-    → Marked mem (c + 1) mark′
-unfolding Marked
+pub marked-more : (mem : Members) (c : ℕ) (mark mark′ : List ℕ) (row : ℕ → Bool) → ((s : ℕ) → row s ≡ mem c s) → BlockMarks mem c mark → MarkedRow row (c + 1) mark mark′
+    → BlockMarks mem (c + 1) mark′
+unfolding BlockMarks
 marked-more mem c mark mark′ row e m r b s h t =
     by-cases (dec-test (mem c s)) (λ y. (c, omega arith, r .here s (rw (e s) y), y))
     (λ n. by-cases (ℕ-discrete b c) (λ q. absurd (n (subst (λ (k : ℕ). T (mem k s)) q t)))
@@ -85,9 +85,9 @@ marked-more mem c mark mark′ row e m r b s h t =
     (d .0, omega (arith, d .1), r .others s (λ y. n (rw (e s) at y)) ∙ d .2, d .3)))
 
 -- block `count` was parted from block c, and its nodes are marked
-pub marked-split : (mem mem′ : Members) (count c : ℕ) (x : ℕ → Bool) (mark mark′ : List ℕ) → c < count → Parted count c x mem mem′ → Marked mem count mark
-    → MarkedRow (mem′ count) (count + 1) mark mark′ → Marked mem′ (count + 1) mark′
-unfolding Marked
+pub marked-split : (mem mem′ : Members) (count c : ℕ) (x : ℕ → Bool) (mark mark′ : List ℕ) → c < count → Parted count c x mem mem′ → BlockMarks mem count mark
+    → MarkedRow (mem′ count) (count + 1) mark mark′ → BlockMarks mem′ (count + 1) mark′
+unfolding BlockMarks
 marked-split mem mem′ count c x mark mark′ in-range parted m r b s h t =
     by-cases (dec-test (mem′ count s)) (λ y. (count, omega arith, r .here s y, y))
     (λ n.

@@ -5,7 +5,7 @@ use native.Mathlib.Omega.{arith}
 use mathlib.Core.List.{List}
 use lib.ListN.{length, getD, take}
 use lib.Seq.{getD-take}
-use Rattle.comparison.specs.Lines.{Entry, sig, neg, alt, next, words, lineWords, entry, Holds}
+use Rattle.comparison.specs.Lines.{Entry, sig, neg, alt, next, words, lineWords, entry, HoldsLines}
 use Rattle.comparison.proofs.Lines.{word-of-line}
 
 by-zero : (l : Entry) → getD (words l) 0 0 ≡ 0 → l ≡ sig (getD (words l) 1 0)
@@ -36,7 +36,7 @@ by-rest (neg j) e = absurd (omega arith)
 by-rest (alt i j) e = absurd (omega arith)
 by-rest (next j) e = refl
 
-module _ (w : List ℕ) (i k : ℕ) (lo : 1 ≤ i) (at : k ≡ 6 * (i - 1)) (ls : List Entry) (h : Holds w ls) (hi : i ≤ length ls) where
+module _ (w : List ℕ) (i k : ℕ) (lo : 1 ≤ i) (at : k ≡ 6 * (i - 1)) (ls : List Entry) (h : HoldsLines w ls) (hi : i ≤ length ls) where
   word-at : (n : ℕ) → n < 6 → getD (words (entry ls i)) n 0 ≡ getD w (k + n) 0
   unfolding entry
   word-at n m =

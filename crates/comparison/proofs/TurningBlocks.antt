@@ -16,7 +16,7 @@ use Rattle.comparison.specs.Blocks.{In, Meets, Unsplit, Split}
 use Rattle.comparison.specs.Refinement.{LinesIn}
 use Rattle.comparison.specs.Tables.{State, firstOf, secondOf, lineOf, written, Room, SplitBlock, OfNodes}
 use Rattle.comparison.specs.Stages.{Staged, Ready, Finer}
-use Rattle.comparison.specs.Signatures.{MarkedRow, Marked, MarksIn, TellsMark, Turned}
+use Rattle.comparison.specs.Signatures.{MarkedRow, BlockMarks, MarksIn, TellsMark, Turned}
 use Rattle.comparison.proofs.FinerBlocks.{unsplit-as, split-as, finer-none, finer-then, finer-split}
 use Rattle.comparison.proofs.StagedSplits.{blocks-fit, room, ready-again}
 use Rattle.comparison.proofs.Splitters.{ready-written}
@@ -30,15 +30,15 @@ four = omega arith
 pub record Turning (M₁ M₂ : List ℕ) (st st′ : State) (mark₁ mark₂ : List ℕ) (all : ℕ → Bool) (c : ℕ) : Type 0 where
   pub staged : Staged M₁ M₂ 5 st′
   pub finer : Finer st st′
-  pub marked₁ : Marked (firstOf st′) (st′ .count) mark₁
-  pub marked₂ : Marked (secondOf st′) (st′ .count) mark₂
+  pub marked₁ : BlockMarks (firstOf st′) (st′ .count) mark₁
+  pub marked₂ : BlockMarks (secondOf st′) (st′ .count) mark₂
   pub every : (e : ℕ) → 1 ≤ e → e ≤ st′ .count → T (all e)
   pub high : c ≤ st′ .count
   pub done : st′ .count ≡ st .count → (b d : ℕ) → b < c → d < st′ .count
       → Unsplit M₁ M₂ (firstOf st′) (secondOf st′) b (leadsInto M₁ (firstOf st′ d)) (leadsInto M₂ (secondOf st′ d))
 
 module _ (M₁ M₂ : List ℕ) (st : State) where
-  pub turning-none : Staged M₁ M₂ 5 st → (mark₁ mark₂ : List ℕ) (all : ℕ → Bool) → Marked (firstOf st) (st .count) mark₁ → Marked (secondOf st) (st .count) mark₂
+  pub turning-none : Staged M₁ M₂ 5 st → (mark₁ mark₂ : List ℕ) (all : ℕ → Bool) → BlockMarks (firstOf st) (st .count) mark₁ → BlockMarks (secondOf st) (st .count) mark₂
       → ((e : ℕ) → all e ≡ (leb e (st .count) && within 1 128 e)) → Turning M₁ M₂ st st mark₁ mark₂ all 0
   turning-none w mark₁ mark₂ all k₁ k₂ q =
       let fit = blocks-fit M₁ M₂ 5 st w in
@@ -165,10 +165,10 @@ module _ (M₁ M₂ : List ℕ) (st : State) where
                 record {
                   staged = again .staged;
                   finer = finer-then st now st″ same-blocks (finer-split now st″ c p x₁ x₂ h b);
-                  marked₁ = subst (λ (k : ℕ). Marked (firstOf st″) k mark₁′) (sym more)
+                  marked₁ = subst (λ (k : ℕ). BlockMarks (firstOf st″) k mark₁′) (sym more)
                       (marked-split (firstOf st′) (firstOf st″) (st′ .count) c x₁ mark₁ mark₁′ h (b .first .parted) (t .marked₁)
                       (subst (λ (k : ℕ). MarkedRow (firstOf st″ k) (k + 1) mark₁ mark₁′) last r₁));
-                  marked₂ = subst (λ (k : ℕ). Marked (secondOf st″) k mark₂′) (sym more)
+                  marked₂ = subst (λ (k : ℕ). BlockMarks (secondOf st″) k mark₂′) (sym more)
                       (marked-split (secondOf st′) (secondOf st″) (st′ .count) c x₂ mark₂ mark₂′ h (b .second .parted) (t .marked₂)
                       (subst (λ (k : ℕ). MarkedRow (secondOf st″ k) (k + 1) mark₂ mark₂′) last r₂));
                   every = λ e lo hi. rw (q e) (by-cases (ℕ-discrete e (st″ .count))

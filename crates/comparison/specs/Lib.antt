@@ -7,6 +7,6 @@ pub mod Tables
 pub mod Bounded
 pub mod Stages
 pub mod Signatures
-pub mod Answers
+pub mod CompareAnswers
 pub mod Sides
 pub mod Needed

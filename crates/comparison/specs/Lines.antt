@@ -69,11 +69,11 @@ unfoldable pub split : ℕ → ℕ → ℕ → List Entry
 split n b p = neg b ∷ neg p ∷ alt (n + 1) (n + 2) ∷ neg (n + 3) ∷ alt (n + 1) p ∷ neg (n + 5) ∷ []
 
 -- the words of the lines stand at the head of the space of 5632 words, enough for 938 lines
-pub record Holds (space : List ℕ) (ls : List Entry) : Type 0 where
+pub record HoldsLines (space : List ℕ) (ls : List Entry) : Type 0 where
   pub size : length space ≡ 5632
   pub stands : take (6 * length ls) space ≡ lineWords ls
 
 -- below n lines, whatever they are, the lines `more` are written
 pub record Adds (before after : List ℕ) (n : ℕ) (more : List Entry) : Type 0 where
   pub size : length after ≡ 5632
-  pub adds : (ls : List Entry) → length ls ≡ n → Holds before ls → Holds after (ls ++ more)
+  pub adds : (ls : List Entry) → length ls ≡ n → HoldsLines before ls → HoldsLines after (ls ++ more)

@@ -6,7 +6,7 @@ use mathlib.Core.List.{List}
 use lib.ListN.{length, getD, set}
 use lib.Dec.{T}
 use Rattle.truth.specs.Passed.{kripke, nodes, machineRefusal}
-use Rattle.comparison.specs.Lines.{Entry, sig, neg, alt, next, entry, Downward, Holds}
+use Rattle.comparison.specs.Lines.{Entry, sig, neg, alt, next, entry, Downward, HoldsLines}
 use Rattle.comparison.specs.Blocks.{TrueIn}
 use Rattle.comparison.specs.declared.needed.Line.{Line}
 use Rattle.comparison.specs.declared.needed.Line.the-variants.{Signal, Not, Or, Next}
@@ -127,7 +127,7 @@ pub record Closed (ls : List Entry) (same : List ℕ) (i j : ℕ) (needed : List
 pub record Copied (a : ℕ) (ls : List Entry) (same needed : List ℕ) (i : ℕ) (number out : List ℕ) (c : ℕ) : Type 0 where
   pub lines : List Entry
   pub count : length lines ≡ c
-  pub holds : Holds out lines
+  pub holds : HoldsLines out lines
   pub down : Downward a lines
   pub low : (k : ℕ) → 1 ≤ k → k ≤ i → 1 ≤ getD needed k 0 → 1 ≤ getD number k 0
   pub high : (k : ℕ) → 1 ≤ k → k ≤ i → 1 ≤ getD needed k 0 → getD number k 0 ≤ c
@@ -142,5 +142,5 @@ pub record Listed (space : List ℕ) (n : ℕ) : Type 0 where
   pub a : ℕ
   pub lines : List Entry
   pub down : Downward a lines
-  pub holds : Holds space lines
+  pub holds : HoldsLines space lines
   pub count : length lines ≡ n

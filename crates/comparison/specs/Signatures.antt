@@ -21,8 +21,8 @@ pub record MarkedRow (row : ℕ → Bool) (e : ℕ) (before after : List ℕ) : 
   pub others : (s : ℕ) → (T (row s) → ⊥) → getD after s 0 ≡ getD before s 0
 
 -- a node of one of the blocks 0 to n - 1 has the mark d + 1 of such a block d that it is in
-unfoldable pub Marked : Members → ℕ → List ℕ → Type 0
-Marked mem n mark = (c s : ℕ) → c < n → T (mem c s) → (d : ℕ) × (d < n) × (getD mark s 0 ≡ d + 1) × T (mem d s)
+unfoldable pub BlockMarks : Members → ℕ → List ℕ → Type 0
+BlockMarks mem n mark = (c s : ℕ) → c < n → T (mem c s) → (d : ℕ) × (d < n) × (getD mark s 0 ≡ d + 1) × T (mem d s)
 
 -- the marks that the edges of the row's nodes lead to are in `all`
 unfoldable pub MarksIn : List ℕ → List ℕ → (ℕ → Bool) → (ℕ → Bool) → Type 0

@@ -8,7 +8,7 @@ use lib.Dec.{T}
 use Rattle.truth.specs.Passed.{kripke, nodes, signals, machineRefusal}
 use Rattle.truth.specs.Rows.{rowsHas, leadsInto}
 use Rattle.comparison.specs.Bounded.{Bounded}
-use Rattle.comparison.specs.Lines.{Entry, sig, lineWords, entry, Holds}
+use Rattle.comparison.specs.Lines.{Entry, sig, lineWords, entry, HoldsLines}
 use Rattle.comparison.specs.Blocks.{Exact, Members, Unsplit, Split}
 use Rattle.comparison.specs.Refinement.{Refinement}
 use Rattle.comparison.specs.Tables.{State, firstOf, secondOf, lineOf, OfNodes}
@@ -25,7 +25,7 @@ pub record Staged (M₁ M₂ : List ℕ) (spare : ℕ) (st : State) : Type 0 whe
   pub sizeLine : length (st .line) ≡ 256
   pub ls : List Entry
   pub number : length ls ≡ st .lines
-  pub holds : Holds (st .words) ls
+  pub holds : HoldsLines (st .words) ls
   pub refinement : Refinement (signals M₁) M₁ M₂ ls (st .count) (lineOf st) (firstOf st) (secondOf st)
   pub ofNodes : (c : ℕ) → c < st .count → OfNodes M₁ M₂ (firstOf st) (secondOf st) c
   pub signal : (i : ℕ) → 1 ≤ i → i ≤ signals M₁ → entry ls i ≡ sig i

@@ -8,10 +8,10 @@ ghost use lib.Seq.{paste};
 ghost use Rattle.truth.specs.Passed as Passed;
 ghost use Rattle.truth.specs.Rows.{rowHas, rowsHas};
 ghost use Rattle.comparison.specs.Comparison as Comparison;
-ghost use Rattle.comparison.specs.Lines.{Entry, head, sheet, Downward, Holds};
+ghost use Rattle.comparison.specs.Lines.{Entry, head, sheet, Downward, HoldsLines};
 ghost use Rattle.comparison.specs.Needed.{Listed, Shortened};
 ghost use Rattle.comparison.specs.Sides.{OneSided};
-ghost use Rattle.comparison.specs.Answers.{comparisonQuestions, CompareAnswer};
+ghost use Rattle.comparison.specs.CompareAnswers.{comparisonQuestions, CompareAnswer};
 use crate::needed::shorten;
 use crate::refine::refine;
 use crate::writing::write_not;
@@ -64,8 +64,8 @@ const NEXT: [u16; 33] = [
     0,
 ];
 
-// A refusal by a question, of a machine sheet; question 0 refuses nothing.
-pub struct Refusal {
+// The first question of a comparison that says no, and the machine sheet that it is put to; question 0 where none says no.
+pub struct FirstNo {
     pub question: u16,
     pub sheet: u16,
 }
@@ -89,24 +89,24 @@ fn last_refusal(m1: &[u16], m2: &[u16], space: usize) -> u16
 }
 
 // The first question of a comparison that says no, for a space of so many words.
-fn compare_refusal(m1: &[u16], m2: &[u16], space: usize) -> Refusal
+fn compare_refusal(m1: &[u16], m2: &[u16], space: usize) -> FirstNo
     ensures { λ r. ⌜ (r .question ≡ Passed.firstNo (comparisonQuestions (now (m1 .entry)) (now (m2 .entry)) space) .number) × (r .sheet ≡ Passed.firstNo (comparisonQuestions (now (m1 .entry)) (now (m2 .entry)) space) .sheet) ⌝ }
 {
     let first = header::machine_refusal(m1);
     if first != 0 {
-        return Refusal {
+        return FirstNo {
             question: first,
             sheet: 1,
         };
     }
     let second = header::machine_refusal(m2);
     if second != 0 {
-        return Refusal {
+        return FirstNo {
             question: second,
             sheet: 2,
         };
     }
-    Refusal {
+    FirstNo {
         question: last_refusal(m1, m2, space),
         sheet: 0,
     }
@@ -177,7 +177,7 @@ fn put_lines(space: &mut [u16], written: &[u16; 5632], n: u16)
 // The sheet of the lines that the last of n written lines needs.
 fn put_sheet(space: &mut [u16], written: &[u16; 5632], n: u16)
     requires { ⌜ (33 + 6 * n ≤ length (now space)) × (1 ≤ n) × (n ≤ 938) × Listed (now written) n ⌝ }
-    ensures { λ r. ⌜ ((a : ℕ) (ls : List Entry) → Downward a ls → Holds (now (written .entry)) ls → length ls ≡ n → (short : List Entry) × Shortened a ls short × (now (space .exit) ≡ sheet short ++ drop (length (sheet short)) (now (space .entry)))) ⌝ }
+    ensures { λ r. ⌜ ((a : ℕ) (ls : List Entry) → Downward a ls → HoldsLines (now (written .entry)) ls → length ls ≡ n → (short : List Entry) × Shortened a ls short × (now (space .exit) ≡ sheet short ++ drop (length (sheet short)) (now (space .entry)))) ⌝ }
 {
     let mut lines = [0u16; 5632];
     let count = shorten(written, n, &mut lines);

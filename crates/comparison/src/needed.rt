@@ -4,7 +4,7 @@ ghost use mathlib.Core.Logic.{_⊎_};
 ghost use mathlib.Core.List.{List, [], _∷_};
 ghost use Prim.Native.Nat.{ℕ, _+_, _-_, _*_, _<_, _≤_};
 ghost use lib.ListN.{length, getD, set};
-ghost use Rattle.comparison.specs.Lines.{Entry, entry, Downward, Holds, Adds};
+ghost use Rattle.comparison.specs.Lines.{Entry, entry, Downward, HoldsLines, Adds};
 ghost use Rattle.comparison.specs.Needed.{entryOf, renumber, marks, AllStand, Merged, Closed, Copied, Listed, Shortened};
 use crate::writing::write_next;
 use crate::writing::write_not;
@@ -42,7 +42,7 @@ fn put(table: &mut [u16; 1024], i: u16, v: u16)
 // Line i of the written ones.
 fn line_at(words: &[u16; 5632], i: u16) -> Line
     requires { ⌜ (1 ≤ i) × (i ≤ 938) ⌝ }
-    ensures { λ r. ⌜ ((ls : List Entry) → Holds (now (words .entry)) ls → i ≤ length ls → entry ls i ≡ entryOf r) ⌝ }
+    ensures { λ r. ⌜ ((ls : List Entry) → HoldsLines (now (words .entry)) ls → i ≤ length ls → entry ls i ≡ entryOf r) ⌝ }
 {
     let k = 6 * (i as usize - 1);
     let op = words[k];
@@ -165,7 +165,7 @@ fn merge_line(
 // For each of n lines, the line that stands for it.
 fn merge(words: &[u16; 5632], n: u16, same: &mut [u16; 1024])
     requires { ⌜ (n ≤ 938) × (length (now same) ≡ 1024) ⌝ }
-    ensures { λ r. ⌜ (length (now (same .exit)) ≡ 1024) × ((a : ℕ) (ls : List Entry) → Downward a ls → Holds (now (words .entry)) ls → n ≤ length ls → AllStand ls n (now (same .exit))) ⌝ }
+    ensures { λ r. ⌜ (length (now (same .exit)) ≡ 1024) × ((a : ℕ) (ls : List Entry) → Downward a ls → HoldsLines (now (words .entry)) ls → n ≤ length ls → AllStand ls n (now (same .exit))) ⌝ }
 {
     let mut other = [0u16; 1024];
     let mut nexts = [0u16; 1024];
@@ -198,7 +198,7 @@ fn mark_line(line: Line, same: &[u16; 1024], needed: &mut [u16; 1024])
 // The lines that line j needs, from line j up.
 fn mark(words: &[u16; 5632], j: u16, same: &[u16; 1024], needed: &mut [u16; 1024])
     requires { ⌜ (1 ≤ j) × (j ≤ 938) × (length (now same) ≡ 1024) × (length (now needed) ≡ 1024) × ((k : ℕ) → getD (now needed) k 0 ≡ 0) ⌝ }
-    ensures { λ r. ⌜ (length (now (needed .exit)) ≡ 1024) × ((a : ℕ) (ls : List Entry) → Downward a ls → Holds (now (words .entry)) ls → j ≤ length ls → AllStand ls (length ls) (now (same .entry)) → Closed ls (now (same .entry)) 0 j (now (needed .exit))) ⌝ }
+    ensures { λ r. ⌜ (length (now (needed .exit)) ≡ 1024) × ((a : ℕ) (ls : List Entry) → Downward a ls → HoldsLines (now (words .entry)) ls → j ≤ length ls → AllStand ls (length ls) (now (same .entry)) → Closed ls (now (same .entry)) 0 j (now (needed .exit))) ⌝ }
 {
     put(needed, j, 1);
     let mut i = j;
@@ -233,7 +233,7 @@ fn copy_needed<'a>(
     out: &mut [u16; 5632],
 ) -> u16
     requires { ⌜ (j ≤ 938) × (length (now same) ≡ 1024) × (length (now needed) ≡ 1024) × (length (now out) ≡ 5632) ⌝ }
-    ensures { λ r. ⌜ (r ≤ j) × (length (now (out .exit)) ≡ 5632) × ((a : ℕ) (ls : List Entry) → Downward a ls → Holds (now (words .entry)) ls → j ≤ length ls → AllStand ls (length ls) (now (same .entry)) → Closed ls (now (same .entry)) 0 j (now (needed .entry)) → (number : List ℕ) × Copied a ls (now (same .entry)) (now (needed .entry)) j number (now (out .exit)) r) ⌝ }
+    ensures { λ r. ⌜ (r ≤ j) × (length (now (out .exit)) ≡ 5632) × ((a : ℕ) (ls : List Entry) → Downward a ls → HoldsLines (now (words .entry)) ls → j ≤ length ls → AllStand ls (length ls) (now (same .entry)) → Closed ls (now (same .entry)) 0 j (now (needed .entry)) → (number : List ℕ) × Copied a ls (now (same .entry)) (now (needed .entry)) j number (now (out .exit)) r) ⌝ }
 {
     let mut number = [0u16; 1024];
     let mut count: u16 = 0;
@@ -253,7 +253,7 @@ fn copy_needed<'a>(
 // Of n written lines, those that the last one needs, one below the other, and how many they are.
 pub fn shorten(words: &[u16; 5632], n: u16, out: &mut [u16; 5632]) -> u16
     requires { ⌜ (1 ≤ n) × (n ≤ 938) × Listed (now words) n × (length (now out) ≡ 5632) ⌝ }
-    ensures { λ r. ⌜ (r ≤ n) × (length (now (out .exit)) ≡ 5632) × ((a : ℕ) (ls : List Entry) → Downward a ls → Holds (now (words .entry)) ls → length ls ≡ n → (short : List Entry) × Shortened a ls short × Holds (now (out .exit)) short × (length short ≡ r)) ⌝ }
+    ensures { λ r. ⌜ (r ≤ n) × (length (now (out .exit)) ≡ 5632) × ((a : ℕ) (ls : List Entry) → Downward a ls → HoldsLines (now (words .entry)) ls → length ls ≡ n → (short : List Entry) × Shortened a ls short × HoldsLines (now (out .exit)) short × (length short ≡ r)) ⌝ }
 {
     let mut same = [0u16; 1024];
     let mut needed = [0u16; 1024];

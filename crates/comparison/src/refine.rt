@@ -17,7 +17,7 @@ use crate::signatures::leading;
 use crate::signatures::mark_row;
 use crate::signatures::marks;
 use crate::signatures::splitter;
-use crate::writing::write_first;
+use crate::writing::write_first_lines;
 use crate::writing::write_next;
 use truth::header;
 use truth::rows::Row;
@@ -281,7 +281,7 @@ fn begin(
     ensures { λ r. ⌜ Staged (now (m1 .entry)) (now (m2 .entry)) 5 (state (now (first .exit)) (now (second .exit)) (now (line .exit)) (now (words .exit)) r) ⌝ }
 {
     let a = header::signals(m1);
-    write_first(words, a);
+    write_first_lines(words, a);
     store(first, 0, structure::node_row(header::nodes(m1)));
     store(second, 0, structure::node_row(header::nodes(m2)));
     line[0] = a + 2;

@@ -5,7 +5,7 @@ ghost use Prim.Native.Nat.{ℕ, _≤_};
 ghost use lib.ListN.{length};
 ghost use Rattle.truth.specs.Rows.{rowHas, rowsHas, leadsInto};
 ghost use Rattle.truth.specs.Targets.{TailOf};
-ghost use Rattle.comparison.specs.Signatures.{MarkedRow, Marked, MarksIn, TellsApart, TellsUnlike, TellsOne, Alone, Led, TellsMark};
+ghost use Rattle.comparison.specs.Signatures.{MarkedRow, BlockMarks, MarksIn, TellsApart, TellsUnlike, TellsOne, Alone, Led, TellsMark};
 ghost use Rattle.comparison.specs.Blocks.{Members};
 use truth::rows::Row;
 use truth::structure;
@@ -38,7 +38,7 @@ pub fn mark_row(mark: &mut [u16; 256], row: Row, e: u16)
 // The marks of the nodes of rows 0 to n - 1, where the mark of row c is c + 1.
 pub fn marks(rows: &[u64; 512], n: u16) -> [u16; 256]
     requires { ⌜ n ≤ 256 ⌝ }
-    ensures { λ r. ⌜ Marked (rowsHas (now (rows .entry))) n r ⌝ }
+    ensures { λ r. ⌜ BlockMarks (rowsHas (now (rows .entry))) n r ⌝ }
 {
     let mut mark = [0u16; 256];
     let mut c: u16 = 0;

@@ -3,7 +3,7 @@ ghost use mathlib.Core.Path.{_≡_};
 ghost use mathlib.Core.List.{[], _∷_, _++_};
 ghost use Prim.Native.Nat.{_+_, _*_, _<_, _≤_};
 ghost use lib.ListN.{length, take};
-ghost use Rattle.comparison.specs.Lines.{sig, neg, alt, next, signalLines, firstLines, split, Holds, Adds};
+ghost use Rattle.comparison.specs.Lines.{sig, neg, alt, next, signalLines, firstLines, split, HoldsLines, Adds};
 
 // The words of line n + 1, of which the last three are always 0.
 fn write_words(out: &mut [u16; 5632], n: u16, op: u16, x: u16, y: u16)
@@ -54,7 +54,7 @@ pub fn write_next(out: &mut [u16; 5632], n: u16, j: u16)
 // Lines 1 to a: the signals.
 fn write_signals(out: &mut [u16; 5632], a: u16)
     requires { ⌜ (a < 938) × (length (now out) ≡ 5632) ⌝ }
-    ensures { λ r. ⌜ Holds (now (out .exit)) (signalLines a) ⌝ }
+    ensures { λ r. ⌜ HoldsLines (now (out .exit)) (signalLines a) ⌝ }
 {
     let mut i: u16 = 0;
     while i < a {
@@ -64,9 +64,9 @@ fn write_signals(out: &mut [u16; 5632], a: u16)
 }
 
 // The signals, and then signal 1 or not signal 1.
-pub fn write_first(out: &mut [u16; 5632], a: u16)
+pub fn write_first_lines(out: &mut [u16; 5632], a: u16)
     requires { ⌜ (a < 900) × (length (now out) ≡ 5632) ⌝ }
-    ensures { λ r. ⌜ Holds (now (out .exit)) (firstLines a) ⌝ }
+    ensures { λ r. ⌜ HoldsLines (now (out .exit)) (firstLines a) ⌝ }
 {
     write_signals(out, a);
     write_not(out, a, 1);

@@ -7,7 +7,7 @@ use Rattle.sheets.specs.Format.{lineWords, nextHead}
 use Rattle.sheets.specs.Questions.{none, firstNo}
 use Rattle.sheets.specs.Rules.{lines}
 use Rattle.comparison.specs.Comparison.{Written}
-use Rattle.comparison.specs.Answers.{CompareAnswer, comparisonQuestions, refusalOf, Leaves}
+use Rattle.comparison.specs.CompareAnswers.{CompareAnswer, comparisonQuestions, refusalOf, Leaves}
 use Rattle.comparison.specs.declared.compare.Answer.{Answer}
 use Rattle.comparison.specs.declared.compare.Answer.the-variants.{Unequal}
 use Rattle.explain.specs.Verdicts.{Telling, Judged}

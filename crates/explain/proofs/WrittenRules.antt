@@ -14,7 +14,7 @@ use Rattle.sheets.proofs.Questions.{rule-answers}
 use Rattle.sheets.proofs.AcceptedMachine.{signals-sized}
 use Rattle.input.specs.Limits.{rowsWords}
 use Rattle.comparison.specs.Comparison.{Written, nextWords}
-use Rattle.comparison.specs.Answers.{comparisonQuestions}
+use Rattle.comparison.specs.CompareAnswers.{comparisonQuestions}
 use Rattle.comparison.proofs.CompareTable.{Compared, compared}
 use Rattle.explain.specs.Verdicts.{Labelable, Telling}
 

@@ -5,7 +5,7 @@ use mathlib.Core.List.{List}
 use Rattle.input.specs.Limits.{machinesBytes}
 use Rattle.input.specs.Replies.{Reply}
 use Rattle.comparison.specs.Comparison.{Written}
-use Rattle.comparison.specs.Answers.{CompareAnswer}
+use Rattle.comparison.specs.CompareAnswers.{CompareAnswer}
 use Rattle.comparison.specs.declared.compare.Answer.the-variants.{Refused, Unequal}
 use Rattle.explain.specs.Verdicts.{Judged}
 use Rattle.explain.specs.declared.answer.Explanation.{Explanation}

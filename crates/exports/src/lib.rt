@@ -2,11 +2,11 @@
 ghost use mathlib.Core.Path.{_≡_};
 ghost use Rattle.sheets.specs.Machine.{machineRefusal};
 ghost use Rattle.sheets.specs.Rules.{lent, ruleRefusal};
-ghost use Rattle.truth.specs.Answers.{LabelAnswer};
+ghost use Rattle.truth.specs.LabelAnswers.{LabelAnswer};
 ghost use Rattle.truth.specs.PathAnswers.{PathAnswer};
 ghost use Rattle.truth.specs.PathPairs.{PairsAnswer};
 ghost use Rattle.exports.specs.Numbers.{Told, labelNumbers, pathNumbers, compareNumbers};
-ghost use Rattle.comparison.specs.Answers.{CompareAnswer};
+ghost use Rattle.comparison.specs.CompareAnswers.{CompareAnswer};
 use comparison::compare;
 use comparison::compare::Answer;
 use sheets::checks;

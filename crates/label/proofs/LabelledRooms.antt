@@ -7,7 +7,7 @@ use mathlib.Core.Bool.{Bool}
 use lib.ListN.{length}
 use Rattle.sheets.specs.Questions.{none}
 use Rattle.sheets.specs.Rules.{lines}
-use Rattle.truth.specs.Answers.{refusalOf, Leaves, LabelAnswer}
+use Rattle.truth.specs.LabelAnswers.{refusalOf, Leaves, LabelAnswer}
 use Rattle.truth.specs.declared.labelling.Labelled.the-variants.{Done}
 use Rattle.truth.proofs.labelling.LabelTable.{space-enough}
 use Rattle.input.proofs.Cuts.{by-reply}

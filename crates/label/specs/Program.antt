@@ -4,7 +4,7 @@ use Prim.Native.Nat.{ℕ}
 use mathlib.Core.List.{List}
 use Rattle.sheets.specs.Machine.{nodes}
 use Rattle.sheets.specs.Rules.{lines}
-use Rattle.truth.specs.Answers.{LabelAnswer}
+use Rattle.truth.specs.LabelAnswers.{LabelAnswer}
 use Rattle.truth.specs.declared.labelling.Labelled.the-variants.{Refused}
 use Rattle.input.specs.Limits.{sheetsBytes}
 use Rattle.input.specs.Replies.{Reply}

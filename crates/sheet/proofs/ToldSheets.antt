@@ -10,7 +10,7 @@ use lib.ListN.{length}
 use Rattle.sheets.specs.Questions.{Refusal, none as noRefusal, Question, firstNo}
 use Rattle.sheets.specs.Machine.{machineRefusal}
 use Rattle.sheets.specs.Rules.{lent, ruleRefusal}
-use Rattle.sheets.specs.Answers.{refusalOf, Answered}
+use Rattle.sheets.specs.CheckAnswers.{refusalOf, Answered}
 use Rattle.sheets.specs.declared.checks.Check.{Check}
 use Rattle.sheets.specs.declared.checks.Check.the-variants.{Accepted, Refused}
 use Rattle.text.proofs.HeldLines.{held-text}

@@ -8,7 +8,7 @@ use lib.ListN.{length}
 use Rattle.sheets.specs.Questions.{Question}
 use Rattle.sheets.specs.Machine.{machineQuestions}
 use Rattle.sheets.specs.Rules.{lent, ruleQuestions}
-use Rattle.sheets.specs.Answers.{Answered}
+use Rattle.sheets.specs.CheckAnswers.{Answered}
 use Rattle.sheets.specs.declared.checks.Check as Check
 use Rattle.sheets.specs.declared.checks.Check.the-variants.{Accepted, Refused}
 use Rattle.text.specs.Lines.{Holds}

@@ -1,5 +1,5 @@
 // What is answered to a sheet that is checked, and the line that says it.
-ghost use Rattle.sheets.specs.Answers.{Answered};
+ghost use Rattle.sheets.specs.CheckAnswers.{Answered};
 ghost use Rattle.text.specs.Lines.{Holds};
 ghost use Rattle.sheet.specs.Program.{questions, CheckedBytes, CheckedText, Checked, checkLine, lineBytes};
 ghost use Rattle.sheet.specs.Program as Program;

@@ -1,11 +1,13 @@
--- A sheet that no question refuses, question by question: of the questions headed Machine and of those headed Rules.
-use mathlib.Core.Path.{_≡_, refl}
+-- Tables of questions: what a table that refuses nothing says, the first "no" of one table after another, and what code that asks in order
+-- finds. Then a sheet that no question refuses, question by question: of the questions headed Machine and of those headed Rules.
+use mathlib.Core.Path.{_≡_, refl, sym, ap, subst, _∙_}
 use Prim.Native.Nat.{ℕ, zero, suc, _≤_}
 use native.Mathlib.Omega.{arith}
 use mathlib.Core.List.{List, [], _∷_, _++_}
-use mathlib.Core.Bool.{Bool, true, false}
+use mathlib.Core.Bool.{Bool, true, false, not}
+use borrow.Author.Tests.{not-true, not-false}
 use lib.Dec.{T}
-use Rattle.sheets.specs.Questions.{none as noRefusal, Question, ask, firstNo}
+use Rattle.sheets.specs.Questions.{Refusal, none as noRefusal, Question, ask, firstNo}
 use Rattle.sheets.specs.Format.{plain}
 use Rattle.sheets.specs.Machine.{machineRefusal, machineQuestions}
 use Rattle.sheets.specs.MachineForms.{q1, q2, q3, q4, q5, q6}
@@ -35,33 +37,28 @@ all-yes (ask zero i false ∷ qs) e = tt
 all-yes (ask (suc k) i true ∷ qs) e = (tt, all-yes qs e)
 all-yes (ask (suc k) i false ∷ qs) e = absurd (omega arith)
 
--- ---- what the first "no" finds, question by question
-
-pub data Finds : List Question → ℕ → Type 0 where
-  none : Finds [] 0
-  yes : {k i n : ℕ} {b : Bool} {qs : List Question} → b ≡ true → Finds qs n → Finds (ask k i b ∷ qs) n
-  no : {k i : ℕ} {b : Bool} {qs : List Question} → b ≡ false → Finds (ask k i b ∷ qs) k
-
-pub found : (qs : List Question) {n : ℕ} → Finds qs n → firstNo qs .number ≡ n
-unfolding firstNo noRefusal
-found qs none = refl
-found qs (yes {k = k} {i = i} {qs = rs} e f) = rw (e, firstNo) (found rs f)
-found qs (no {k = k} {i = i} {qs = rs} e) = rw (e, firstNo) refl
-
--- ---- what every question of a table has, by its number and its sheet, the first "no" has
+-- ---- what every question of a table has, by its number and its sheet
 
 abbrev pub Every : (ℕ → ℕ → Type 0) → List Question → Type 0
 Every P [] = Unit {0}
 Every P (ask k i b ∷ qs) = P k i × Every P qs
 
+pub every-both : (P : ℕ → ℕ → Type 0) (qs rs : List Question) → Every P qs → Every P rs → Every P (qs ++ rs)
+every-both P [] rs h l = l
+every-both P (ask k i b ∷ qs) rs h l = (h .0, every-both P qs rs (h .1) l)
+
+pub every-map : (P Q : ℕ → ℕ → Type 0) → ((k i : ℕ) → P k i → Q k i) → (qs : List Question) → Every P qs → Every Q qs
+every-map P Q f [] h = tt
+every-map P Q f (ask k i b ∷ qs) h = (f k i (h .0), every-map P Q f qs (h .1))
+
+-- the first "no" has it
 pub first-has : (P : ℕ → ℕ → Type 0) (qs : List Question) → Every P qs → (firstNo qs .number ≡ 0 → ⊥) → P (firstNo qs .number) (firstNo qs .sheet)
 unfolding firstNo noRefusal
 first-has P [] h n = absurd (n refl)
 first-has P (ask k i true ∷ qs) h n = first-has P qs (h .1) n
 first-has P (ask k i false ∷ qs) h n = h .0
 
--- ---- one table after another: a question's number is not 0, so that the number 0 says that no question refuses
-
+-- a question's number is not 0, so that the number 0 says that no question refuses
 abbrev pub Numbered : List Question → Type 0
 Numbered = Every (λ k i. 1 ≤ k)
 
@@ -70,6 +67,29 @@ unfolding firstNo noRefusal
 none-found [] h e = refl
 none-found (ask k i true ∷ qs) h e = none-found qs (h .1) e
 none-found (ask k i false ∷ qs) h e = absurd (omega (arith, h .0))
+
+-- every question is put to sheet i
+abbrev pub PutTo : ℕ → List Question → Type 0
+PutTo i = Every (λ k j. j ≡ i)
+
+pub no-sheet : (qs : List Question) → PutTo 0 qs → firstNo qs .sheet ≡ 0
+unfolding firstNo noRefusal
+no-sheet [] h = refl
+no-sheet (ask k j true ∷ qs) h = no-sheet qs (h .1)
+no-sheet (ask k j false ∷ qs) h = h .0
+
+-- tables with the same numbers and answers, whatever sheets they are put to, refuse by the same number
+pub data Alike : List Question → List Question → Type 0 where
+  nothing : Alike [] []
+  also : {k i j : ℕ} {b : Bool} {qs rs : List Question} → Alike qs rs → Alike (ask k i b ∷ qs) (ask k j b ∷ rs)
+
+pub same-number : {qs rs : List Question} → Alike qs rs → firstNo qs .number ≡ firstNo rs .number
+unfolding firstNo
+same-number nothing = refl
+same-number (also {b = true} a) = same-number a
+same-number (also {b = false} a) = refl
+
+-- ---- the first "no" of one table after another: that of the first, and where the first refuses nothing, that of the second
 
 pub first-table : (qs rs : List Question) → (firstNo qs .number ≡ 0 → ⊥) → firstNo (qs ++ rs) ≡ firstNo qs
 unfolding firstNo noRefusal
@@ -82,6 +102,59 @@ unfolding firstNo noRefusal
 later-table [] rs h e = refl
 later-table (ask k i true ∷ qs) rs h e = later-table qs rs (h .1) e
 later-table (ask k i false ∷ qs) rs h e = absurd (omega (arith, h .0))
+
+-- where both refuse nothing, each of them does
+pub none-of-both : (qs rs : List Question) → Numbered qs → firstNo (qs ++ rs) .number ≡ 0 → (firstNo qs .number ≡ 0) × (firstNo rs .number ≡ 0)
+unfolding firstNo noRefusal
+none-of-both [] rs h e = (refl, e)
+none-of-both (ask k i true ∷ qs) rs h e = none-of-both qs rs (h .1) e
+none-of-both (ask k i false ∷ qs) rs h e = absurd (omega (arith, h .0))
+
+-- two tables with the same first part refuse alike, if their rests do where that part refuses nothing
+pub same-rest : (qs rs rs′ : List Question) → (firstNo qs .number ≡ 0 → firstNo rs ≡ firstNo rs′) → firstNo (qs ++ rs) ≡ firstNo (qs ++ rs′)
+unfolding firstNo noRefusal
+same-rest [] rs rs′ h = h refl
+same-rest (ask k i true ∷ qs) rs rs′ h = same-rest qs rs rs′ h
+same-rest (ask k i false ∷ qs) rs rs′ h = refl
+
+-- ---- what the first "no" finds, as code asks: question by question, or a part of the table at once
+
+pub data Finds : List Question → ℕ → Type 0 where
+  none : Finds [] 0
+  yes : {k i n : ℕ} {b : Bool} {qs : List Question} → b ≡ true → Finds qs n → Finds (ask k i b ∷ qs) n
+  no : {k i : ℕ} {b : Bool} {qs : List Question} → b ≡ false → Finds (ask k i b ∷ qs) k
+
+pub found : (qs : List Question) {n : ℕ} → Finds qs n → firstNo qs .number ≡ n
+unfolding firstNo noRefusal
+found qs none = refl
+found qs (yes {k = k} {i = i} {qs = rs} e f) = rw (e, firstNo) (found rs f)
+found qs (no {k = k} {i = i} {qs = rs} e) = rw (e, firstNo) refl
+
+-- a question's function answered a: the code went on, or returned the question's number
+pub went-on : {k i n : ℕ} {b : Bool} {qs : List Question} (a : Bool) → a ≡ b → not a ≡ false → Finds qs n → Finds (ask k i b ∷ qs) n
+went-on a e y f = yes (sym e ∙ not-false a y) f
+
+pub returned : {k i : ℕ} {b : Bool} {qs : List Question} (a : Bool) → a ≡ b → not a ≡ true → Finds (ask k i b ∷ qs) k
+returned a e n = no (sym e ∙ not-true a n)
+
+finds-first : (qs : List Question) → Finds qs (firstNo qs .number)
+unfolding firstNo noRefusal
+finds-first [] = none
+finds-first (ask k i true ∷ qs) = yes refl (finds-first qs)
+finds-first (ask k i false ∷ qs) = no refl
+
+-- a table's function returned a
+pub finds : (qs : List Question) (a : ℕ) → a ≡ firstNo qs .number → Finds qs a
+finds qs a e = subst (Finds qs) (sym e) (finds-first qs)
+
+-- it is a part of a table: the code returned a, or went on
+module _ (qs rs : List Question) (a : ℕ) (e : a ≡ firstNo qs .number) where
+  pub part-returned : (a ≡ 0 → ⊥) → Finds (qs ++ rs) a
+  part-returned n = finds (qs ++ rs) a (e ∙ sym (ap (λ (r : Refusal). r .number) (first-table qs rs (λ z. n (e ∙ z)))))
+
+  pub part-went-on : Numbered qs → a ≡ 0 → {n : ℕ} → Finds rs n → Finds (qs ++ rs) n
+  part-went-on h z {n = n} f =
+      finds (qs ++ rs) n (sym (ap (λ (r : Refusal). r .number) (later-table qs rs h (sym e ∙ z)) ∙ found rs f))
 
 -- ---- a machine sheet
 

@@ -1,9 +1,11 @@
-// The two sheet checks: entry points for every slice of words, empty ones too.
+// The sheet checks: the two entry points, for every slice of words, empty ones too, and questions 1 to 16 for the calls that take a
+// machine sheet and a rule sheet.
 ghost use mathlib.Core.Path.{_≡_};
 ghost use Rattle.sheets.specs.Questions.{firstNo};
 ghost use Rattle.sheets.specs.Machine as Machine;
 ghost use Rattle.sheets.specs.Rules as Rules;
-ghost use Rattle.sheets.specs.Answers.{Answered};
+ghost use Rattle.sheets.specs.Sheets as Sheets;
+ghost use Rattle.sheets.specs.CheckAnswers.{Answered};
 use crate::automata;
 use crate::condition;
 use crate::lines;
@@ -34,6 +36,31 @@ pub fn rule_refusal(r: &[u16]) -> u16
         return 14;
     }
     lines::lines_refusal(r)
+}
+
+// The number of the first of questions 1 to 16 that refuses a machine sheet and a rule sheet, 0 where none does.
+pub fn sheets_refusal(m: &[u16], r: &[u16]) -> u16
+    ensures { λ q. ⌜ q ≡ firstNo (Sheets.sheetQuestions (now (m .entry)) (now (r .entry))) .number ⌝ }
+{
+    let machine = machine::machine_refusal(m);
+    if machine != 0 {
+        return machine;
+    }
+    let rules = rule_refusal(r);
+    if rules != 0 {
+        return rules;
+    }
+    if !lines::over_signals(r, machine::signals(m)) {
+        return 16;
+    }
+    0
+}
+
+// The machine sheet that a question is put to, in a call with one machine sheet.
+pub fn sheet_of(question: u16) -> u16
+    ensures { λ i. ⌜ i ≡ Sheets.sheetOf question ⌝ }
+{
+    if question <= 6 { 1 } else { 0 }
 }
 
 // The machine sheet check, questions 1 to 6.

@@ -1,5 +1,5 @@
--- Laws of growing: times marked, pairs added, turns, rounds.
-pub mod RowMarks
+-- Laws of growing: times, pairs added, turns, rounds.
+pub mod RowTimes
 pub mod RowAdditions
 pub mod Spreading
 pub mod GrowthTurn

@@ -7,10 +7,11 @@ use mathlib.Core.Bool.{Bool, false}
 use lib.ListN.{length}
 use lib.Count.{ones}
 use lib.Dec.{T, leb}
-use Rattle.sheets.specs.Words.{word, bit, indicator}
+use Rattle.sheets.specs.Words.{word, bit}
 use Rattle.sheets.specs.Questions.{Question, ask}
-use Rattle.sheets.specs.Machine.{machineQuestions, nodes, signals, kripke}
-use Rattle.sheets.specs.Rules.{lent, ruleQuestions, overSignals, lines}
+use Rattle.sheets.specs.Machine.{nodes, kripke}
+use Rattle.sheets.specs.Rules.{lent, lines}
+use Rattle.sheets.specs.Sheets.{sheetQuestions}
 use Rattle.truth.specs.Truth.{Truths, TrueAt}
 
 -- node s in the row of line j: two words of 64 bits a line
@@ -37,10 +38,11 @@ pub data HowMany (P : ℕ → Type 0) : ℕ → ℕ → Type 0 where
 unfoldable pub percent : ℕ → ℕ → ℕ
 percent c n = (200 * c + n) / (2 * n)
 
--- the questions that labelling asks, of a space of so many words
+-- the questions that labelling asks, of a space of so many words: those of both sheets, and "Has the space for truth rows at least 2l words
+-- of 64 bits?"
 unfoldable pub labelQuestions : List ℕ → List ℕ → ℕ → List Question
-unfolding machineQuestions ruleQuestions lent overSignals signals lines
-labelQuestions M R space = machineQuestions 1 M ++ (ruleQuestions lent R ++ (ask 16 0 (overSignals lent (signals M) R) ∷ ask 17 0 (leb (2 * lines R) space) ∷ []))
+unfolding sheetQuestions lines
+labelQuestions M R space = sheetQuestions M R ++ (ask 17 0 (leb (2 * lines R) space) ∷ [])
 
 -- `after` is `before` with the rows of the lines 1 to k of R on M
 pub record RowsTo (M R : List ℕ) (k : ℕ) (before after : List ℕ) : Type 0 where
@@ -52,11 +54,6 @@ pub record RowsTo (M R : List ℕ) (k : ℕ) (before after : List ℕ) : Type 0 
 -- of all lines
 abbrev pub Rows : List ℕ → List ℕ → List ℕ → List ℕ → Type 0
 Rows M R before after = RowsTo M R (lines R) before after
-
--- the machine sheet that a question is put to, in a call with one machine sheet: 1 for questions 1 to 6, otherwise 0
-unfoldable pub sheetOf : ℕ → ℕ
-unfolding indicator
-sheetOf q = indicator (leb q 6)
 
 -- every start node of M passes
 unfoldable pub StartsIn : List ℕ → (ℕ → Bool) → Type 0

@@ -8,17 +8,18 @@ use mathlib.Core.Bool.{Bool, not, _&&_}
 use lib.ListN.{length, getD}
 use lib.Dec.{T, eqb, leb}
 use Rattle.sheets.specs.Words.{within, indicator, sum}
+use Rattle.truth.specs.Sizes.{membersMost, cell, pairsMost, pairAt}
 use Rattle.truth.specs.Rows.{rowsHas}
 
 -- an edge leads from s to s′, in a table that has the successors of node s at row s - 1
 abbrev pub edgeIn : List ℕ → ℕ → ℕ → Bool
 edgeIn next s s′ = rowsHas next (s - 1) s′
 
--- A step from (p, s) to (p′, s′), among positions below t: row 16 p + p′ of `allow` has the nodes at which the automaton may go
+-- A step from (p, s) to (p′, s′), among positions below t: row `cell p p′` of `allow` has the nodes at which the automaton may go
 -- from p to p′ (perhaps to several positions at one node), and an edge leads from s to s′.
-pub record Steps (allow next : List ℕ) (t p s p′ s′ : ℕ) : Type 0 where
+pub record PairStep (allow next : List ℕ) (t p s p′ s′ : ℕ) : Type 0 where
   pub below : p′ < t
-  pub allowed : T (rowsHas allow (16 * p + p′) s)
+  pub allowed : T (rowsHas allow (cell p p′) s)
   pub moves : T (edgeIn next s s′)
 
 -- every row of the first t has nodes 1 to n alone
@@ -27,7 +28,7 @@ UpTo n t ys = (p s : ℕ) → p < t → T (rowsHas ys p s) → s ≤ n
 
 -- row u - 1 of `back` has, among nodes 1 to n, those that an edge leads from to u
 abbrev pub Transposed : ℕ → List ℕ → List ℕ → Type 0
-Transposed n next back = (s u : ℕ) → 1 ≤ u → u ≤ n → rowsHas back (u - 1) s ≡ (leb s n && (within 1 128 s && edgeIn next s u))
+Transposed n next back = (s u : ℕ) → 1 ≤ u → u ≤ n → rowsHas back (u - 1) s ≡ (leb s n && (within 1 membersMost s && edgeIn next s u))
 
 -- s is among what row u - 1 of `back` has, for a u of the row
 abbrev pub Before : List ℕ → (ℕ → Bool) → ℕ → Type 0
@@ -51,15 +52,15 @@ pub record Cleared (p : ℕ) (before after : List ℕ) : Type 0 where
 -- finitely many steps lead from (p, s) into `xs`
 pub data Reaches (allow next : List ℕ) (t : ℕ) (xs : List ℕ) : ℕ → ℕ → Type 0 where
   here : {p s : ℕ} → T (rowsHas xs p s) → Reaches allow next t xs p s
-  there : {p s p′ s′ : ℕ} → Steps allow next t p s p′ s′ → Reaches allow next t xs p′ s′ → Reaches allow next t xs p s
+  there : {p s p′ s′ : ℕ} → PairStep allow next t p s p′ s′ → Reaches allow next t xs p′ s′ → Reaches allow next t xs p s
 
--- the time at which a pair was met, in a table of 128 numbers a position
+-- the time at which a pair was met, in a table of numbers by pair
 abbrev pub timeOf : List ℕ → ℕ → ℕ → ℕ
-timeOf times p s = getD times (128 * p + (s - 1)) 0
+timeOf times p s = getD times (pairAt p s) 0
 
--- there is room for the time of every pair of 16 positions
+-- there is room for the time of every pair
 abbrev pub Timed : List ℕ → Type 0
-Timed times = 2048 ≤ length times
+Timed times = pairsMost ≤ length times
 
 -- every time is 0
 abbrev pub NoTime : List ℕ → Type 0
@@ -67,21 +68,21 @@ NoTime times = (i : ℕ) → getD times i 0 ≡ 0
 
 -- a step leads from (p, s) to a pair of `set` with an earlier time
 abbrev pub Sooner : List ℕ → List ℕ → ℕ → List ℕ → List ℕ → ℕ → ℕ → Type 0
-Sooner allow next t set times p s = (p′ s′ : ℕ) × Steps allow next t p s p′ s′ × T (rowsHas set p′ s′) × (timeOf times p′ s′ < timeOf times p s)
+Sooner allow next t set times p s = (p′ s′ : ℕ) × PairStep allow next t p s p′ s′ × T (rowsHas set p′ s′) × (timeOf times p′ s′ < timeOf times p s)
 
 -- `ys` is the least set that has `xs` and every pair with a step into it; where times are kept, the time falls along some step from each
 -- other pair
 pub record Least (allow next : List ℕ) (t : ℕ) (xs ys times : List ℕ) : Type 0 where
   pub keeps : (p s : ℕ) → p < t → T (rowsHas xs p s) → T (rowsHas ys p s)
   pub reaches : (p s : ℕ) → p < t → T (rowsHas ys p s) → Reaches allow next t xs p s
-  pub closed : (p s p′ s′ : ℕ) → p < t → Steps allow next t p s p′ s′ → T (rowsHas ys p′ s′) → T (rowsHas ys p s)
+  pub closed : (p s p′ s′ : ℕ) → p < t → PairStep allow next t p s p′ s′ → T (rowsHas ys p′ s′) → T (rowsHas ys p s)
   pub falls : Timed times → (p s : ℕ) → p < t → T (rowsHas ys p s) → T (rowsHas xs p s) ⊎ Sooner allow next t ys times p s
 
 -- ---- the largest set of pairs each of which has a step into it
 
 -- a step from (p, s) leads into the set W
 abbrev pub Onward : List ℕ → List ℕ → ℕ → (ℕ → ℕ → Bool) → ℕ → ℕ → Type 0
-Onward allow next t W p s = (p′ s′ : ℕ) × Steps allow next t p s p′ s′ × T (W p′ s′)
+Onward allow next t W p s = (p′ s′ : ℕ) × PairStep allow next t p s p′ s′ × T (W p′ s′)
 
 -- every pair of W, of a position below t, has a step into W
 abbrev pub Lasts : List ℕ → List ℕ → ℕ → (ℕ → ℕ → Bool) → Type 0
@@ -106,4 +107,4 @@ weigh x g = 2 * indicator x + indicator g
 -- what the pairs of positions below t count
 unfoldable pub weight : ℕ → (ℕ → ℕ → Bool) → (ℕ → ℕ → Bool) → ℕ
 unfolding sum weigh
-weight t x g = sum t (λ q. sum 128 (λ s. weigh (x (q - 1) s) (g (q - 1) s)))
+weight t x g = sum t (λ q. sum membersMost (λ s. weigh (x (q - 1) s) (g (q - 1) s)))

@@ -8,8 +8,9 @@ use lib.Dec.{leb}
 use Rattle.sheets.specs.Words.{word, within}
 use Rattle.sheets.specs.Questions.{Question, ask}
 use Rattle.sheets.specs.Structures.{Kripke, Automaton, Line, signal, negation, either, somePath, somePathNot, malformed}
-use Rattle.sheets.specs.Machine.{machineQuestions, kripke, nodes, signals}
-use Rattle.sheets.specs.Rules.{lent, ruleQuestions, overSignals, lines, lineWord, line, automaton, statesOf}
+use Rattle.sheets.specs.Machine.{kripke, nodes}
+use Rattle.sheets.specs.Rules.{lent, lines, lineWord, line, automaton, statesOf}
+use Rattle.sheets.specs.Sheets.{sheetQuestions}
 use Rattle.truth.specs.Truth.{Truths, TrueAt}
 use Rattle.truth.specs.Lists.{Lasso}
 
@@ -28,10 +29,10 @@ unfoldable pub q19 : List ℕ → List ℕ → ℕ → ℕ → Bool
 unfolding asked nodes statesOf lineWord lent
 q19 M R j room = leb (nodes M * length (statesOf R (lineWord lent R (asked R j) 1))) room
 
+-- the questions that the path call asks: those of both sheets, and its own
 unfoldable pub pathQuestions : List ℕ → List ℕ → ℕ → ℕ → ℕ → List Question
-unfolding machineQuestions ruleQuestions lent overSignals signals q18 q19
-pathQuestions M R j s room =
-    machineQuestions 1 M ++ (ruleQuestions lent R ++ (ask 16 0 (overSignals lent (signals M) R) ∷ ask 18 0 (q18 M R j s) ∷ ask 19 0 (q19 M R j room) ∷ []))
+unfolding sheetQuestions q18 q19
+pathQuestions M R j s room = sheetQuestions M R ++ (ask 18 0 (q18 M R j s) ∷ ask 19 0 (q19 M R j room) ∷ [])
 
 -- of a path line; no other line has one
 unfoldable pub Shows : Kripke → (ℕ → Automaton) → Truths → Line → ℕ → (ℕ → ℕ) → (ℕ → ℕ) → ℕ → ℕ → Type 0

@@ -7,7 +7,7 @@ use Rattle.sheets.specs.Questions.{Refusal, none, firstNo}
 use Rattle.sheets.specs.Rules.{lent}
 use Rattle.truth.specs.Truth.{TrueAt}
 use Rattle.truth.specs.Path.{asked, pathQuestions, ShowsPath, ShownPath}
-use Rattle.truth.specs.Walked.{placed}
+use Rattle.truth.specs.Trails.{placed}
 use Rattle.truth.specs.declared.path.Shown.{Shown}
 use Rattle.truth.specs.declared.path.Shown.the-variants.{Refused, NoPath, Path}
 

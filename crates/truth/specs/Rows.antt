@@ -1,12 +1,13 @@
 -- Rows: a set of nodes from 1 to 128 in two words of 64 bits, node s at bit s - 1 of both together.
 use mathlib.Core.Path.{_≡_}
-use Prim.Native.Nat.{ℕ, zero, suc, _+_, _-_, _*_, _≤_}
+use Prim.Native.Nat.{ℕ, zero, suc, _+_, _-_, _≤_}
 use mathlib.Core.Bool.{Bool, true, false, _&&_}
 use mathlib.Core.List.{List}
 use lib.ListN.{getD}
 use lib.Dec.{T, leb, eqb}
 use Rattle.sheets.specs.Words.{bit, within, indicator, anyOf}
 use Rattle.sheets.specs.Machine.{edgesOf, target}
+use Rattle.truth.specs.Sizes.{rowWordBits, membersMost, lowAt, highAt}
 use Rattle.truth.specs.declared.rows.Row.{Row}
 
 unfoldable pub pick : Bool → Bool → Bool → Bool
@@ -16,14 +17,14 @@ pick false a b = b
 -- node s is in the set that two words hold
 unfoldable pub held : ℕ → ℕ → ℕ → Bool
 unfolding pick within bit
-held low high s = within 1 128 s && pick (leb s 64) (bit low (s - 1)) (bit high (s - 65))
+held low high s = within 1 membersMost s && pick (leb s rowWordBits) (bit low (s - 1)) (bit high (s - suc rowWordBits))
 
 abbrev pub rowHas : Row → ℕ → Bool
 rowHas r s = held (r .low) (r .high) s
 
 -- node s in row p of a table: two words a row, rows from 0
 abbrev pub rowsHas : List ℕ → ℕ → ℕ → Bool
-rowsHas ys p s = held (getD ys (2 * p) 0) (getD ys (2 * p + 1) 0) s
+rowsHas ys p s = held (getD ys (lowAt p) 0) (getD ys (highAt p) 0) s
 
 -- how many of 1 to n pass
 unfoldable pub tally : ℕ → (ℕ → Bool) → ℕ
@@ -39,7 +40,7 @@ leadsInto M p s = anyOf (edgesOf M s) (λ x. p (target M x))
 -- e is a mark from 1 to 128 of a node from 1 to 128 that some edge of node s leads to
 unfoldable pub marksInto : List ℕ → List ℕ → ℕ → ℕ → Bool
 unfolding within leadsInto
-marksInto M mark s e = within 1 128 e && leadsInto M (λ t. within 1 128 t && eqb (getD mark t 0) e) s
+marksInto M mark s e = within 1 membersMost e && leadsInto M (λ t. within 1 membersMost t && eqb (getD mark t 0) e) s
 
 -- of the numbers that pass r is the one before all others in an order, or 0 where none passes
 pub record Foremost (before : ℕ → ℕ → Type 0) (p : ℕ → Bool) (r : ℕ) : Type 0 where

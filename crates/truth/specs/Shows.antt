@@ -9,7 +9,7 @@ use Rattle.truth.specs.Labelling.{rowTruths}
 use Rattle.truth.specs.Lists.{Lasso}
 use Rattle.truth.specs.Product.{argument, good}
 use Rattle.truth.specs.OneLine.{Holds}
-use Rattle.truth.specs.Walked.{placed}
+use Rattle.truth.specs.Trails.{placed}
 use Rattle.truth.specs.declared.path.Shown.{Shown}
 use Rattle.truth.specs.declared.path.Shown.the-variants.{Refused, NoPath, Path}
 

@@ -2,13 +2,14 @@
 -- to them have been looked at.
 use mathlib.Core.Path.{_≡_}
 use mathlib.Core.Logic.{_⊎_}
-use Prim.Native.Nat.{ℕ, _+_, _*_, _<_}
+use Prim.Native.Nat.{ℕ, _<_}
 use mathlib.Core.List.{List}
 use mathlib.Core.Bool.{Bool, true, false, not, _&&_, _||_}
 use lib.ListN.{length}
 use lib.Dec.{T}
+use Rattle.truth.specs.Sizes.{cell}
 use Rattle.truth.specs.Rows.{rowsHas}
-use Rattle.truth.specs.Pairs.{Steps, UpTo, Transposed, Before, Onward, Lasts, Inside, weight}
+use Rattle.truth.specs.Pairs.{PairStep, UpTo, Transposed, Before, Onward, Lasts, Inside, weight}
 
 -- some number below t
 abbrev pub SomeBelow : ℕ → (ℕ → Type 0) → Type 0
@@ -35,7 +36,7 @@ pub record Taken (p : ℕ) (lost : ℕ → Bool) (xs gone xs′ gone′ : List �
 
 -- a step from (p, s) leads to a pair of `xs` or of `gone`
 abbrev pub Owed : List ℕ → List ℕ → ℕ → List ℕ → List ℕ → ℕ → ℕ → Type 0
-Owed allow next t xs gone p s = (p′ s′ : ℕ) × Steps allow next t p s p′ s′ × (T (rowsHas xs p′ s′) ⊎ T (rowsHas gone p′ s′))
+Owed allow next t xs gone p s = (p′ s′ : ℕ) × PairStep allow next t p s p′ s′ × (T (rowsHas xs p′ s′) ⊎ T (rowsHas gone p′ s′))
 
 -- so it is from every pair of `xs`
 abbrev pub Owing : List ℕ → List ℕ → ℕ → List ℕ → List ℕ → Type 0
@@ -44,7 +45,7 @@ Owing allow next t xs gone = (p s : ℕ) → p < t → T (rowsHas xs p s) → Ow
 -- the pairs of `xs` with a step to p2 and a node of `row` are owed a step
 abbrev pub OwingTo : List ℕ → List ℕ → ℕ → ℕ → (ℕ → Bool) → List ℕ → List ℕ → ℕ → Type 0
 OwingTo allow next t p2 row xs gone p =
-    (s : ℕ) → T (rowsHas xs p s) → T (rowsHas allow (16 * p + p2) s) → T (row s) → Owed allow next t xs gone p s
+    (s : ℕ) → T (rowsHas xs p s) → T (rowsHas allow (cell p p2) s) → T (row s) → Owed allow next t xs gone p s
 
 -- pairs went from `xs`, none of a lasting set, and only they came into `gone`
 pub record Shrunk (allow next : List ℕ) (t : ℕ) (xs gone xs′ gone′ : List ℕ) : Type 0 where
@@ -69,7 +70,7 @@ pub record Trimmed (allow next back : List ℕ) (t : ℕ) (xs gone xs′ gone′
 
 -- at s the automaton may go from p to a position whose row has a node that s is before
 abbrev pub Ahead : List ℕ → List ℕ → ℕ → List ℕ → ℕ → ℕ → Type 0
-Ahead allow back t xs p s = SomeBelow t (λ k. T (rowsHas allow (16 * p + k) s) × Before back (rowsHas xs k) s)
+Ahead allow back t xs p s = SomeBelow t (λ k. T (rowsHas allow (cell p k) s) × Before back (rowsHas xs k) s)
 
 -- the pairs of positions below k that have nothing ahead went from `xs` to an empty `gone`
 pub record Started (allow back : List ℕ) (t k : ℕ) (xs xs′ gone′ : List ℕ) : Type 0 where

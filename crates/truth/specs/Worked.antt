@@ -10,7 +10,7 @@ use Rattle.sheets.specs.Words.{word}
 use Rattle.sheets.specs.Machine.{signals, machineRefusal}
 use Rattle.sheets.specs.Rules.{lent, lines, overSignals, ruleRefusal}
 use Rattle.truth.specs.Labelling.{rowBit}
-use Rattle.truth.specs.Answers.{LabelAnswer}
+use Rattle.truth.specs.LabelAnswers.{LabelAnswer}
 use Rattle.truth.specs.declared.labelling.Labelled.{Labelled}
 use Rattle.truth.specs.declared.labelling.Labelled.the-variants.{Done}
 

@@ -1,23 +1,29 @@
 // The pairs from which steps lead into a set: the set grows by what its newest pairs are stepped to from, until nothing is new.
 ghost use mathlib.Core.Path.{_≡_};
 ghost use mathlib.Core.Bool.{_&&_};
-ghost use Prim.Native.Nat.{ℕ, _+_, _-_, _<_, _≤_};
+ghost use Prim.Native.Nat.{ℕ, _+_, _<_, _≤_};
 ghost use mathlib.Core.List.{List};
 ghost use lib.ListN.{length};
 ghost use lib.Dec.{eqb};
+ghost use Rattle.truth.specs.Sizes.{positionsMost, tableRows, setWords};
 ghost use Rattle.truth.specs.Rows.{rowHas};
 ghost use Rattle.truth.specs.Pairs.{UpTo, Transposed, NoRows, Timed, NoTime, Least};
 ghost use Rattle.truth.specs.Links.{Into};
-ghost use Rattle.truth.specs.Growing.{Marked, Spread, enters, Turn, left, Turns};
+ghost use Rattle.truth.specs.Growing.{TimePut, Spread, enters, Turn, lastTime, left, Turns};
 use crate::positions;
 use crate::rows::Row;
+use crate::sizes::PAIRS;
+use crate::sizes::POSITIONS;
+use crate::sizes::SET_WORDS;
+use crate::sizes::TABLE_WORDS;
 use crate::structure::together;
 use crate::tables::load;
+use sheets::format::NODES;
 
 // Writes the time at the nodes of the row, at position p.
-fn mark(row: Row, p: usize, time: u16, times: &mut [u16])
-    requires { ⌜ (p < 16) × Timed (now times) ⌝ }
-    ensures { λ r. ⌜ Marked (rowHas row) p time (now (times .entry)) (now (times .exit)) ⌝ }
+fn put_time(row: Row, p: usize, time: u16, times: &mut [u16])
+    requires { ⌜ (p < positionsMost) × Timed (now times) ⌝ }
+    ensures { λ r. ⌜ TimePut (rowHas row) p time (now (times .entry)) (now (times .exit)) ⌝ }
 {
     let mut rest = row;
     loop {
@@ -25,52 +31,53 @@ fn mark(row: Row, p: usize, time: u16, times: &mut [u16])
         if s == 0 {
             return;
         }
-        times[128 * p + (s as usize - 1)] = time;
+        times[NODES * p + (s as usize - 1)] = time;
         rest = rest.without(s);
     }
 }
 
 // Adds the pairs at p of the nodes `prev` at which the automaton may go to p2.
 fn grow_one(
-    allow: &[u64; 512],
+    allow: &[u64; TABLE_WORDS],
     p: usize,
     p2: usize,
     prev: Row,
     time: u16,
-    ys: &mut [u64; 32],
-    new: &mut [u64; 32],
+    ys: &mut [u64; SET_WORDS],
+    new: &mut [u64; SET_WORDS],
     times: &mut [u16],
 )
-    requires { ⌜ (p < 16) × (p2 < 16) × (length (now ys) ≡ 32) × (length (now new) ≡ 32) ⌝ }
+    requires { ⌜ (p < positionsMost) × (p2 < positionsMost) × (length (now ys) ≡ setWords) × (length (now new) ≡ setWords) ⌝ }
     ensures { λ r. ⌜ Spread (λ q s. eqb q p && enters (now (allow .entry)) p2 (rowHas prev) p s) time (now (ys .entry)) (now (new .entry)) (now (times .entry)) (now (ys .exit)) (now (new .exit)) (now (times .exit)) ⌝ }
 {
     let here = positions::load(ys, p);
-    let extra = load(allow, 16 * p + p2).intersection(prev).difference(here);
+    let extra = load(allow, POSITIONS * p + p2).intersection(prev)
+        .difference(here);
     if extra.is_empty() {
         return;
     }
     positions::store(ys, p, here.union(extra));
     let fresh = positions::load(new, p);
     positions::store(new, p, fresh.union(extra));
-    if times.len() < 2048 {
+    if times.len() < PAIRS {
         return;
     }
-    mark(extra, p, time, times);
+    put_time(extra, p, time, times);
 }
 
 // Adds the pairs with a step to a new pair at p2.
 fn grow_from(
-    allow: &[u64; 512],
-    back: &[u64; 512],
-    into: &[u64; 32],
+    allow: &[u64; TABLE_WORDS],
+    back: &[u64; TABLE_WORDS],
+    into: &[u64; SET_WORDS],
     t: usize,
     p2: usize,
     time: u16,
-    ys: &mut [u64; 32],
-    new: &mut [u64; 32],
+    ys: &mut [u64; SET_WORDS],
+    new: &mut [u64; SET_WORDS],
     times: &mut [u16],
 )
-    requires { ⌜ (p2 < t) × (t ≤ 16) × (length (now ys) ≡ 32) × (length (now new) ≡ 32) × Into (now allow) (now into) t ⌝ }
+    requires { ⌜ (p2 < t) × (t ≤ positionsMost) × (length (now ys) ≡ setWords) × (length (now new) ≡ setWords) × Into (now allow) (now into) t ⌝ }
     ensures { λ r. ⌜ Turn (now (allow .entry)) (now (back .entry)) t p2 time (now (ys .entry)) (now (new .entry)) (now (times .entry)) (now (ys .exit)) (now (new .exit)) (now (times .exit)) ⌝ }
 {
     let prev = together(back, positions::load(new, p2));
@@ -88,16 +95,16 @@ fn grow_from(
 
 // A turn for each position with a new pair; hands the next turn's time back.
 fn grow_round(
-    allow: &[u64; 512],
-    back: &[u64; 512],
-    into: &[u64; 32],
+    allow: &[u64; TABLE_WORDS],
+    back: &[u64; TABLE_WORDS],
+    into: &[u64; SET_WORDS],
     t: usize,
     time: u16,
-    ys: &mut [u64; 32],
-    new: &mut [u64; 32],
+    ys: &mut [u64; SET_WORDS],
+    new: &mut [u64; SET_WORDS],
     times: &mut [u16],
 ) -> u16
-    requires { ⌜ (t ≤ 16) × (time + left t (now ys) (now new) ≤ 65535) × (length (now ys) ≡ 32) × (length (now new) ≡ 32) × Into (now allow) (now into) t ⌝ }
+    requires { ⌜ (t ≤ positionsMost) × (time + left t (now ys) (now new) ≤ lastTime) × (length (now ys) ≡ setWords) × (length (now new) ≡ setWords) × Into (now allow) (now into) t ⌝ }
     ensures turns { λ r. ⌜ Turns (now (allow .entry)) (now (back .entry)) t time r (now (ys .entry)) (now (new .entry)) (now (times .entry)) (now (ys .exit)) (now (new .exit)) (now (times .exit)) ⌝ }
     ensures done { λ r. ⌜ (r ≡ time → NoRows t (now (new .exit))) ⌝ }
 {
@@ -114,19 +121,19 @@ fn grow_round(
     at
 }
 
-// `allow` has the nodes at which the automaton may go from p to p2 at row 16 p + p2, `back` the predecessors of node u at row u - 1;
+// `allow` has the nodes at which the automaton may go from p to p2 at row POSITIONS * p + p2, `back` the predecessors of node u at row u - 1;
 // t positions, of which `xs` has the first pairs; `into` has the positions that each may be entered from. The time at which each other pair
 // is met goes to `times`, if it has room for all pairs.
 pub fn grow(
-    allow: &[u64; 512],
-    back: &[u64; 512],
-    into: &[u64; 32],
+    allow: &[u64; TABLE_WORDS],
+    back: &[u64; TABLE_WORDS],
+    into: &[u64; SET_WORDS],
     t: usize,
-    xs: [u64; 32],
+    xs: [u64; SET_WORDS],
     times: &mut [u16],
-) -> [u64; 32]
-    requires { ⌜ (t ≤ 16) × NoTime (now times) × Into (now allow) (now into) t ⌝ }
-    ensures { λ r. ⌜ ((n : ℕ) (next : List ℕ) → Transposed n next (now (back .entry)) → UpTo n 256 (now (allow .entry)) → UpTo n t xs → Least (now (allow .entry)) next t xs r (now (times .exit))) ⌝ }
+) -> [u64; SET_WORDS]
+    requires { ⌜ (t ≤ positionsMost) × NoTime (now times) × Into (now allow) (now into) t ⌝ }
+    ensures { λ r. ⌜ ((n : ℕ) (next : List ℕ) → Transposed n next (now (back .entry)) → UpTo n tableRows (now (allow .entry)) → UpTo n t xs → Least (now (allow .entry)) next t xs r (now (times .exit))) ⌝ }
 {
     let mut ys = xs;
     let mut new = xs;

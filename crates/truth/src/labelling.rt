@@ -9,7 +9,7 @@ ghost use Rattle.sheets.specs.Machine as Machine;
 ghost use Rattle.sheets.specs.Rules as Rules;
 ghost use Rattle.truth.specs.Rows.{rowHas};
 ghost use Rattle.truth.specs.Labelling as Labelling;
-ghost use Rattle.truth.specs.Answers.{LabelAnswer};
+ghost use Rattle.truth.specs.LabelAnswers.{LabelAnswer};
 use crate::lines::row_of_line;
 use crate::rows::Row;
 use crate::structure;
@@ -36,28 +36,14 @@ pub enum Labelled {
 fn label_refusal(m: &[u16], r: &[u16], space: usize) -> u16
     ensures { λ q. ⌜ q ≡ firstNo (Labelling.labelQuestions (now (m .entry)) (now (r .entry)) space) .number ⌝ }
 {
-    let machine = machine::machine_refusal(m);
-    if machine != 0 {
-        return machine;
-    }
-    let rules = checks::rule_refusal(r);
-    if rules != 0 {
-        return rules;
-    }
-    if !sheets::lines::over_signals(r, machine::signals(m)) {
-        return 16;
+    let sheets = checks::sheets_refusal(m, r);
+    if sheets != 0 {
+        return sheets;
     }
     if space < 2 * (rules::lines(r) as usize) {
         return 17;
     }
     0
-}
-
-// The machine sheet that a question is put to, in a call with one machine sheet.
-pub fn sheet_of(question: u16) -> u16
-    ensures { λ i. ⌜ i ≡ Labelling.sheetOf question ⌝ }
-{
-    if question <= 6 { 1 } else { 0 }
 }
 
 // Writes the row of each line from the first to the given one.
@@ -100,7 +86,7 @@ pub fn label(m: &[u16], r: &[u16], rows: &mut [u64]) -> Labelled
     if question != 0 {
         return Labelled::Refused {
             question: question,
-            sheet: sheet_of(question),
+            sheet: checks::sheet_of(question),
         };
     }
     let l = rules::lines(r);

@@ -1,4 +1,5 @@
 // Truth: labelling and paths.
+pub mod sizes; // sizes.rt: the sizes of rows and tables
 pub mod rows; // rows.rt: a set of nodes as a value
 pub mod structure; // structure.rt: the machine's structure in rows
 pub mod tables; // tables.rt: tables of rows
@@ -9,7 +10,7 @@ mod growth; // growth.rt: the pairs from which steps lead into a set
 mod lines; // lines.rt: the row of one line
 pub mod labelling; // labelling.rt: the rows of a rule sheet, and the answer
 pub mod breaks; // breaks.rt: the start node where a machine breaks a rule
-mod walk; // walk.rt: a walk through the pairs that shows a path
+mod trail; // trail.rt: a trail through the pairs that shows a path
 pub mod header; // header.rt: what the crate above asks of a machine sheet
 pub mod path; // path.rt: the path call
 pub mod pairs; // pairs.rt: the path call over a list of pairs

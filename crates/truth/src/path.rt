@@ -12,17 +12,16 @@ ghost use Rattle.truth.specs.OneLine.{Ready, PathReady};
 ghost use Rattle.truth.specs.Rows.{rowsHas};
 ghost use Rattle.truth.specs.Product.{good, stateAt};
 ghost use Rattle.truth.specs.Lists.{Lasso};
-ghost use Rattle.truth.specs.Walked.{placed};
+ghost use Rattle.truth.specs.Trails.{placed};
 ghost use Rattle.truth.specs.Path as Path;
 ghost use Rattle.truth.specs.PathAnswers.{lengthOf, MadeFor, PathAnswer};
 ghost use Rattle.truth.specs.Shows.{ShowsLine};
 use crate::labelling::label_lines;
-use crate::labelling::sheet_of;
 use crate::lines::solve;
 use crate::positions::load;
 use crate::product::chain_states;
 use crate::structure;
-use crate::walk::walk;
+use crate::trail::trace;
 use sheets::automata;
 use sheets::checks;
 use sheets::machine;
@@ -55,16 +54,9 @@ fn asked(r: &[u16], line: u16) -> u16
 fn path_refusal(m: &[u16], r: &[u16], line: u16, node: u16, room: usize) -> u16
     ensures { λ q. ⌜ q ≡ firstNo (Path.pathQuestions (now (m .entry)) (now (r .entry)) line node room) .number ⌝ }
 {
-    let machine = machine::machine_refusal(m);
-    if machine != 0 {
-        return machine;
-    }
-    let rules = checks::rule_refusal(r);
-    if rules != 0 {
-        return rules;
-    }
-    if !sheets::lines::over_signals(r, machine::signals(m)) {
-        return 16;
+    let sheets = checks::sheets_refusal(m, r);
+    if sheets != 0 {
+        return sheets;
     }
     if !q18(m, r, line, node) {
         return 18;
@@ -138,7 +130,7 @@ fn show(
     }
     let t = automata::chain_length(r, x);
     let n = machine::nodes(m);
-    let found = walk(
+    let found = trace(
         &solved.allow,
         next,
         t as usize,
@@ -199,7 +191,7 @@ fn make(m: &[u16], r: &[u16], line: u16, node: u16, room: usize) -> Made
             nodes: [0u8; 2048],
             answer: Shown::Refused {
                 question: question,
-                sheet: sheet_of(question),
+                sheet: checks::sheet_of(question),
             },
             states: [0u16; 2048],
         };

@@ -1,10 +1,15 @@
 // A truth row: a set of nodes as a value of two words. Union, complement and the like hand a new row back.
 ghost use mathlib.Core.Path.{_≡_};
 ghost use mathlib.Core.Bool.{false, not, _&&_, _||_};
-ghost use Prim.Native.Nat.{ℕ, _+_, _-_};
+ghost use Prim.Native.Nat.{ℕ};
 ghost use lib.Dec.{eqb};
 ghost use Rattle.sheets.specs.Words.{within, each};
+ghost use Rattle.truth.specs.Sizes.{membersMost};
 ghost use Rattle.truth.specs.Rows.{rowHas, tally, First, Last};
+use crate::sizes::HIGH_FIRST;
+use crate::sizes::LOW_LAST;
+use crate::sizes::MEMBERS;
+use crate::sizes::ROW_WORD_BITS;
 
 // A set of nodes 1 to 128.
 pub struct Row {
@@ -28,11 +33,11 @@ impl Row {
         if s == 0 {
             return false;
         }
-        if s <= 64 {
+        if s <= LOW_LAST {
             return (self.low >> (s - 1)) & 1 == 1;
         }
-        if s <= 128 {
-            return (self.high >> (s - 65)) & 1 == 1;
+        if s <= MEMBERS {
+            return (self.high >> (s - HIGH_FIRST)) & 1 == 1;
         }
         false
     }
@@ -56,7 +61,7 @@ impl Row {
     }
 
     pub fn complement(self) -> Row
-        ensures { λ r. ⌜ ((s : ℕ) → rowHas r s ≡ (within 1 128 s && not (rowHas self s))) ⌝ }
+        ensures { λ r. ⌜ ((s : ℕ) → rowHas r s ≡ (within 1 membersMost s && not (rowHas self s))) ⌝ }
     {
         Row {
             low: !self.low,
@@ -65,28 +70,28 @@ impl Row {
     }
 
     pub fn with(self, s: u16) -> Row
-        ensures { λ r. ⌜ ((i : ℕ) → rowHas r i ≡ (rowHas self i || (within 1 128 s && eqb i s))) ⌝ }
+        ensures { λ r. ⌜ ((i : ℕ) → rowHas r i ≡ (rowHas self i || (within 1 membersMost s && eqb i s))) ⌝ }
     {
         if s == 0 {
             return self;
         }
-        if s <= 64 {
+        if s <= LOW_LAST {
             return Row {
                 low: self.low | (1 << (s - 1)),
                 high: self.high,
             };
         }
-        if s <= 128 {
+        if s <= MEMBERS {
             return Row {
                 low: self.low,
-                high: self.high | (1 << (s - 65)),
+                high: self.high | (1 << (s - HIGH_FIRST)),
             };
         }
         self
     }
 
     pub fn is_empty(self) -> bool
-        ensures { λ r. ⌜ r ≡ each 128 (λ s. not (rowHas self s)) ⌝ }
+        ensures { λ r. ⌜ r ≡ each membersMost (λ s. not (rowHas self s)) ⌝ }
     {
         if self.low != 0 {
             return false;
@@ -95,7 +100,7 @@ impl Row {
     }
 
     pub fn count(self) -> u32
-        ensures { λ r. ⌜ r ≡ tally 128 (rowHas self) ⌝ }
+        ensures { λ r. ⌜ r ≡ tally membersMost (rowHas self) ⌝ }
     {
         u64::count_ones(self.low) + u64::count_ones(self.high)
     }
@@ -109,7 +114,7 @@ impl Row {
 
     // Whether some node is in both.
     pub fn meets(self, other: Row) -> bool
-        ensures { λ r. ⌜ r ≡ not (each 128 (λ s. not (rowHas self s && rowHas other s))) ⌝ }
+        ensures { λ r. ⌜ r ≡ not (each membersMost (λ s. not (rowHas self s && rowHas other s))) ⌝ }
     {
         !self.intersection(other).is_empty()
     }
@@ -119,10 +124,10 @@ impl Row {
         ensures { λ r. ⌜ First (rowHas self) r ⌝ }
     {
         if self.low != 0 {
-            return (u64::trailing_zeros(self.low) % 64) as u16 + 1;
+            return (u64::trailing_zeros(self.low) % ROW_WORD_BITS) as u16 + 1;
         }
         if self.high != 0 {
-            return (u64::trailing_zeros(self.high) % 64) as u16 + 65;
+            return (u64::trailing_zeros(self.high) % ROW_WORD_BITS) as u16 + HIGH_FIRST;
         }
         0
     }
@@ -132,10 +137,10 @@ impl Row {
         ensures { λ r. ⌜ Last (rowHas self) r ⌝ }
     {
         if self.high != 0 {
-            return 128 - (u64::leading_zeros(self.high) % 64) as u16;
+            return MEMBERS - (u64::leading_zeros(self.high) % ROW_WORD_BITS) as u16;
         }
         if self.low != 0 {
-            return 64 - (u64::leading_zeros(self.low) % 64) as u16;
+            return LOW_LAST - (u64::leading_zeros(self.low) % ROW_WORD_BITS) as u16;
         }
         0
     }

@@ -1,19 +1,22 @@
 // The machine's structure in rows, read from the lent words: the nodes with an edge into a row, the nodes of a signal, the start nodes.
 ghost use mathlib.Core.Path.{_≡_};
 ghost use mathlib.Core.Logic.{_↔_, _⊎_};
-ghost use mathlib.Core.Bool.{true, false, _&&_};
-ghost use Prim.Native.Nat.{ℕ, _+_, _-_, _*_, _<_, _≤_};
+ghost use mathlib.Core.Bool.{false, _&&_};
+ghost use Prim.Native.Nat.{ℕ, _-_, _*_, _≤_};
 ghost use lib.ListN.{length};
 ghost use lib.Dec.{T, eqb, leb};
 ghost use Rattle.sheets.specs.Words.{within};
 ghost use Rattle.sheets.specs.Machine as Machine;
 ghost use Rattle.sheets.specs.Records.{recordWord};
 ghost use Rattle.sheets.specs.Gathered.{records, Remaining, Until};
+ghost use Rattle.truth.specs.Sizes.{membersMost, rowWords, tableRows, tableWords};
 ghost use Rattle.truth.specs.Rows.{rowHas, rowsHas, leadsInto, marksInto};
-ghost use Rattle.truth.specs.Targets.{TargetsTaken, Stopped, TailOf, chainLeads};
+ghost use Rattle.truth.specs.Targets.{linksEnd, TargetsTaken, Stopped, TailOf, chainLeads};
 ghost use Rattle.truth.specs.Pairs.{Before};
 ghost use Rattle.truth.specs.Links.{AddedBefore};
 use crate::rows::Row;
+use crate::sizes::TABLE_ROWS;
+use crate::sizes::TABLE_WORDS;
 use crate::tables::add;
 use crate::tables::line_row;
 use crate::tables::load;
@@ -29,6 +32,9 @@ pub struct Tail {
     pub row: Row,
     pub at: u64,
 }
+
+// Links are words, so below this number.
+const LINKS_END: u64 = 65536;
 
 // What is gathered of a chain: the targets so far, the record at which the walk is left, and the link of the last record. The fields leave
 // no gap between them, which would be copied at each step.
@@ -47,13 +53,13 @@ fn no_tail() -> Tail
 
 // No target yet, and no link that is one.
 fn no_targets(stop: u64) -> Targets
-    ensures { λ r. ⌜ (r .stop ≡ stop) × ((r .link ≡ 65536) × ((t : ℕ) → rowHas (r .row) t ≡ false)) ⌝ }
+    ensures { λ r. ⌜ (r .stop ≡ stop) × ((r .link ≡ linksEnd) × ((t : ℕ) → rowHas (r .row) t ≡ false)) ⌝ }
 {
     let row = Row::empty();
     Targets {
         row,
         stop,
-        link: 65536,
+        link: LINKS_END,
     }
 }
 
@@ -123,7 +129,7 @@ fn tail_for(tail: Tail, x: u16, e: u16) -> Tail
 // The nodes that the chain from record x on leads to.
 fn chain_row(m: &[u16], x: u16, tail: Tail) -> Row
     requires { ⌜ TailOf (now m) tail ⌝ }
-    ensures { λ r. ⌜ ((t : ℕ) → rowHas r t ≡ (within 1 128 t && chainLeads (now (m .entry)) x t)) ⌝ }
+    ensures { λ r. ⌜ ((t : ℕ) → rowHas r t ≡ (within 1 membersMost t && chainLeads (now (m .entry)) x t)) ⌝ }
 {
     if x as u64 == tail.at {
         return tail.row;
@@ -144,7 +150,7 @@ fn chain_row(m: &[u16], x: u16, tail: Tail) -> Row
 // The nodes that the edges of node s lead to.
 fn successor_row(m: &[u16], s: u16, tail: Tail) -> Row
     requires { ⌜ TailOf (now m) tail ⌝ }
-    ensures { λ r. ⌜ ((t : ℕ) → rowHas r t ≡ (within 1 128 t && Machine.kripke (now (m .entry)) .edge s t)) ⌝ }
+    ensures { λ r. ⌜ ((t : ℕ) → rowHas r t ≡ (within 1 membersMost t && Machine.kripke (now (m .entry)) .edge s t)) ⌝ }
 {
     chain_row(m, machine::first_edge(m, s), tail)
 }
@@ -170,7 +176,7 @@ fn joint(m: &[u16]) -> u16 {
             at = found.link;
         }
     }
-    (at % 65536) as u16
+    (at % LINKS_END) as u16
 }
 
 // A tail that chains of the machine share, if there is one.
@@ -196,7 +202,7 @@ pub fn leads_into(m: &[u16], s: u16, row: Row, tail: Tail) -> bool
 
 // The nodes 1 to n.
 pub fn node_row(n: u16) -> Row
-    ensures { λ r. ⌜ ((s : ℕ) → rowHas r s ≡ (leb s n && within 1 128 s)) ⌝ }
+    ensures { λ r. ⌜ ((s : ℕ) → rowHas r s ≡ (leb s n && within 1 membersMost s)) ⌝ }
 {
     let mut out = Row::empty();
     let mut s: u16 = 0;
@@ -209,7 +215,7 @@ pub fn node_row(n: u16) -> Row
 
 // The nodes where signal i is set.
 pub fn signal_row(m: &[u16], i: u16) -> Row
-    ensures { λ r. ⌜ ((s : ℕ) → rowHas r s ≡ (leb s (Machine.nodes (now (m .entry))) && (within 1 128 s && Machine.signalAt (now (m .entry)) i s))) ⌝ }
+    ensures { λ r. ⌜ ((s : ℕ) → rowHas r s ≡ (leb s (Machine.nodes (now (m .entry))) && (within 1 membersMost s && Machine.signalAt (now (m .entry)) i s))) ⌝ }
 {
     let n = machine::nodes(m);
     let mut out = Row::empty();
@@ -225,7 +231,7 @@ pub fn signal_row(m: &[u16], i: u16) -> Row
 
 // The start nodes.
 pub fn start_row(m: &[u16]) -> Row
-    ensures { λ r. ⌜ ((s : ℕ) → rowHas r s ≡ (leb s (Machine.nodes (now (m .entry))) && (within 1 128 s && eqb (Machine.startFlag (now (m .entry)) s) 1))) ⌝ }
+    ensures { λ r. ⌜ ((s : ℕ) → rowHas r s ≡ (leb s (Machine.nodes (now (m .entry))) && (within 1 membersMost s && eqb (Machine.startFlag (now (m .entry)) s) 1))) ⌝ }
 {
     let n = machine::nodes(m);
     let mut out = Row::empty();
@@ -261,13 +267,13 @@ pub fn marks_into(m: &[u16], mark: &[u16; 256], all: Row, s: u16, tail: Tail) ->
 }
 
 // The successors of each node s, at row s - 1.
-pub fn successors(m: &[u16]) -> [u64; 512]
-    ensures { λ r. ⌜ ((s t : ℕ) → 1 ≤ s → s ≤ Machine.nodes (now (m .entry)) → s ≤ 256 → rowsHas r (s - 1) t ≡ (within 1 128 t && Machine.kripke (now (m .entry)) .edge s t)) ⌝ }
+pub fn successors(m: &[u16]) -> [u64; TABLE_WORDS]
+    ensures { λ r. ⌜ ((s t : ℕ) → 1 ≤ s → s ≤ Machine.nodes (now (m .entry)) → s ≤ tableRows → rowsHas r (s - 1) t ≡ (within 1 membersMost t && Machine.kripke (now (m .entry)) .edge s t)) ⌝ }
 {
     let n = machine::nodes(m);
-    let mut out = [0u64; 512];
+    let mut out = [0u64; TABLE_WORDS];
     let mut s: u16 = 0;
-    while s < n && s < 256 {
+    while s < n && s < TABLE_ROWS {
         let row = successor_row(m, s + 1, no_tail());
         store(&mut out, s as usize, row);
         s += 1;
@@ -276,8 +282,8 @@ pub fn successors(m: &[u16]) -> [u64; 512]
 }
 
 // Node s more in the row of each node of the set.
-fn add_before(set: Row, s: u16, out: &mut [u64; 512])
-    requires { ⌜ length (now out) ≡ 512 ⌝ }
+fn add_before(set: Row, s: u16, out: &mut [u64; TABLE_WORDS])
+    requires { ⌜ length (now out) ≡ tableWords ⌝ }
     ensures { λ r. ⌜ AddedBefore (rowHas set) s (now (out .entry)) (now (out .exit)) ⌝ }
 {
     let mut left = set;
@@ -292,11 +298,11 @@ fn add_before(set: Row, s: u16, out: &mut [u64; 512])
 }
 
 // The predecessors of each node t, at row t - 1: each node goes to the rows of its successors.
-pub fn predecessors(next: &[u64; 512], n: u16) -> [u64; 512]
-    requires { ⌜ n ≤ 128 ⌝ }
-    ensures { λ r. ⌜ ((s t : ℕ) → 1 ≤ t → t ≤ n → rowsHas r (t - 1) s ≡ (leb s n && (within 1 128 s && rowsHas (now (next .entry)) (s - 1) t))) ⌝ }
+pub fn predecessors(next: &[u64; TABLE_WORDS], n: u16) -> [u64; TABLE_WORDS]
+    requires { ⌜ n ≤ membersMost ⌝ }
+    ensures { λ r. ⌜ ((s t : ℕ) → 1 ≤ t → t ≤ n → rowsHas r (t - 1) s ≡ (leb s n && (within 1 membersMost s && rowsHas (now (next .entry)) (s - 1) t))) ⌝ }
 {
-    let mut out = [0u64; 512];
+    let mut out = [0u64; TABLE_WORDS];
     let mut s: u16 = 0;
     while s < n {
         let row = load(next, s as usize);
@@ -308,7 +314,7 @@ pub fn predecessors(next: &[u64; 512], n: u16) -> [u64; 512]
 
 // The rows of a table that a set names, together: row u - 1 for each u of the set.
 pub fn together(table: &[u64], set: Row) -> Row
-    requires { ⌜ ((u : ℕ) → T (rowHas set u) → 2 * u ≤ length (now table)) ⌝ }
+    requires { ⌜ ((u : ℕ) → T (rowHas set u) → rowWords * u ≤ length (now table)) ⌝ }
     ensures { λ r. ⌜ ((s : ℕ) → T (rowHas r s) ↔ Before (now (table .entry)) (rowHas set) s) ⌝ }
 {
     let mut out = Row::empty();

@@ -1,6 +1,6 @@
 -- `toqshenay_check_machine` meets its contract: the number of the answer.
 use Rattle.sheets.specs.Machine.{machineRefusal, machineQuestions}
-use Rattle.sheets.proofs.Answers.{accepted-number, refused-number}
+use Rattle.sheets.proofs.CheckAnswers.{accepted-number, refused-number}
 use borrow.Author.Needs.{needs}
 use Rattle.exports.proofs.toqshenay_check_machine.Statement.{statement}
 use Rattle.exports.proofs.toqshenay_check_machine.Tie as tie

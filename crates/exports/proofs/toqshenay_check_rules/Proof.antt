@@ -1,6 +1,6 @@
 -- `toqshenay_check_rules` meets its contract: the number of the answer.
 use Rattle.sheets.specs.Rules.{lent, ruleRefusal, ruleQuestions}
-use Rattle.sheets.proofs.Answers.{accepted-number, refused-number}
+use Rattle.sheets.proofs.CheckAnswers.{accepted-number, refused-number}
 use borrow.Author.Needs.{needs}
 use Rattle.exports.proofs.toqshenay_check_rules.Statement.{statement}
 use Rattle.exports.proofs.toqshenay_check_rules.Tie as tie

@@ -20,7 +20,7 @@ use Rattle.sheets.proofs.AcceptedRule.{some-line}
 use Rattle.truth.specs.Truth.{Keeps, TrueAt}
 use Rattle.truth.specs.Rows.{held}
 use Rattle.truth.specs.Labelling.{labelQuestions, StartsIn, Rows, rowBit}
-use Rattle.truth.specs.Answers.{refusalOf, Leaves, LabelAnswer}
+use Rattle.truth.specs.LabelAnswers.{refusalOf, Leaves, LabelAnswer}
 use Rattle.truth.specs.declared.labelling.Labelled.{Labelled}
 use Rattle.truth.specs.declared.labelling.Labelled.the-variants.{Refused, Done}
 use Rattle.truth.specs.Breaks.{FirstOutside, FirstBreak}

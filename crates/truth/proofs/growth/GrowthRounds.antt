@@ -1,11 +1,12 @@
 -- Turns of a growing set of pairs after each other: none, one, more; where the first turn starts, and that where nothing is new the set is the least.
 use mathlib.Core.Path.{_≡_, refl, _∙_}
 use mathlib.Core.Logic.{inl, inr, ⊎-elim}
-use Prim.Native.Nat.{ℕ, _+_, _-_, _*_, _≤_, _<_}
+use Prim.Native.Nat.{ℕ, _+_, _-_, _≤_, _<_}
 use native.Mathlib.Omega.{arith}
 use mathlib.Core.List.{List}
 use mathlib.Core.Bool.{false, not}
 use Rattle.sheets.specs.Words.{each}
+use Rattle.truth.specs.Sizes.{positionsMost, membersMost, pairAt}
 use Rattle.truth.specs.Rows.{rowsHas}
 use Rattle.truth.specs.Pairs.{UpTo, NoRows, here, NoTime, Least}
 use Rattle.truth.specs.Growing.{Turn, Growing, Turns}
@@ -35,8 +36,8 @@ module _ {allow back : List ℕ} {t : ℕ} where
     grows = λ n next xs k u g. two .grows n next xs k u (one .grows n next xs k u g);
   }
 
-  module _ {p time : ℕ} {ys new times ys′ new′ times′ : List ℕ} (few : t ≤ 16) (l : p < t) (turn : Turn allow back t p time ys new times ys′ new′ times′) where
-    pub turns-one : each 128 (λ s. not (rowsHas new p s)) ≡ false → Turns allow back t time (time + 1) ys new times ys′ new′ times′
+  module _ {p time : ℕ} {ys new times ys′ new′ times′ : List ℕ} (few : t ≤ positionsMost) (l : p < t) (turn : Turn allow back t p time ys new times ys′ new′ times′) where
+    pub turns-one : each membersMost (λ s. not (rowsHas new p s)) ≡ false → Turns allow back t time (time + 1) ys new times ys′ new′ times′
     turns-one some =
         let u = one-passes (rowsHas new p) some in
         record {
@@ -58,7 +59,7 @@ module _ {allow next : List ℕ} {n t : ℕ} {xs : List ℕ} where
     upTo = upTo;
     done = λ p s p′ s′ h st x. inr x;
     falls = λ r p s h x. inl x;
-    early = λ r p s h x. omega (arith, zeros (128 * p + (s - 1)));
+    early = λ r p s h x. omega (arith, zeros (pairAt p s));
   }
 
   pub growing-last : {ys new times : List ℕ} {time : ℕ} → Growing allow next n t xs ys new times time → NoRows t new → Least allow next t xs ys times

@@ -1,15 +1,16 @@
 -- One turn of a growing set of pairs keeps what holds of it, and leaves less to be done.
 use mathlib.Core.Path.{_≡_, refl}
 use mathlib.Core.Logic.{_⊎_, inl, inr, ⊎-elim, ⊎-map, by-cases}
-use Prim.Native.Nat.{ℕ, _+_, _*_, _≤_, _<_}
+use Prim.Native.Nat.{ℕ, _+_, _≤_, _<_}
 use native.Mathlib.Omega.{arith}
 use native.Mathlib.Decide.{ℕ-discrete}
 use mathlib.Core.List.{List}
 use mathlib.Core.Bool.{Bool, not, _&&_}
 use lib.Dec.{T, T-not, not-T, eqb, ltb, lt→ltb, eqb→eq, eqb-refl}
 use Rattle.sheets.proofs.Tests.{test, contrary, twice-not, and-left, and-right, and-both, or-left, or-right, or-cases}
+use Rattle.truth.specs.Sizes.{positionsMost, tableRows, cell}
 use Rattle.truth.specs.Rows.{rowsHas}
-use Rattle.truth.specs.Pairs.{Steps, UpTo, Transposed, there, timeOf, Timed, Sooner}
+use Rattle.truth.specs.Pairs.{PairStep, UpTo, Transposed, there, timeOf, Timed, Sooner}
 use Rattle.truth.specs.Growing.{enters, below, Turn, left, Growing}
 use Rattle.truth.proofs.rows.RowLaws.{held-in}
 use Rattle.truth.proofs.structure.EdgesBack.{back-of, edge-of}
@@ -61,30 +62,30 @@ module _ {allow back : List ℕ} {t p′ time : ℕ} {ys new times ys′ new′ 
 
   -- ---- what holds of a growing set
 
-  module _ {next : List ℕ} {n : ℕ} {xs : List ℕ} (below-t : p′ < t) (few : t ≤ 16) (transposed : Transposed n next back) (upTo : UpTo n 256 allow)
+  module _ {next : List ℕ} {n : ℕ} {xs : List ℕ} (below-t : p′ < t) (few : t ≤ positionsMost) (transposed : Transposed n next back) (upTo : UpTo n tableRows allow)
       (g : Growing allow next n t xs ys new times time) where
-    e-allowed : (p s : ℕ) → T (e p s) → T (rowsHas allow (16 * p + p′) s)
-    e-allowed p s x = and-left (rowsHas allow (16 * p + p′) s) (turn .prev s) (and-right (ltb p t) (enters allow p′ (turn .prev) p s) x)
+    e-allowed : (p s : ℕ) → T (e p s) → T (rowsHas allow (cell p p′) s)
+    e-allowed p s x = and-left (rowsHas allow (cell p p′) s) (turn .prev s) (and-right (ltb p t) (enters allow p′ (turn .prev) p s) x)
 
     -- a pair that is added steps to a pair that was new
-    e-step : (p s : ℕ) → T (e p s) → (u : ℕ) × Steps allow next t p s p′ u × T (rowsHas ys p′ u)
+    e-step : (p s : ℕ) → T (e p s) → (u : ℕ) × PairStep allow next t p s p′ u × T (rowsHas ys p′ u)
     e-step p s x =
-        let r = turn .before s .0 (and-right (rowsHas allow (16 * p + p′) s) (turn .prev s) (and-right (ltb p t) (enters allow p′ (turn .prev) p s) x)) in
+        let r = turn .before s .0 (and-right (rowsHas allow (cell p p′) s) (turn .prev s) (and-right (ltb p t) (enters allow p′ (turn .prev) p s) x)) in
         let y = g .fresh p′ (r .0) below-t (r .1) in
         let moves = edge-of n next back transposed s (r .0) (held-in _ _ (r .0) y .0) (g .upTo p′ (r .0) below-t y) (r .2) in
         (r .0, record { below = below-t; allowed = e-allowed p s x; moves = moves }, y)
 
     -- and a pair with a step to a pair that was new is added
-    step-e : (p s s′ : ℕ) → p < t → Steps allow next t p s p′ s′ → T (rowsHas new p′ s′) → T (e p s)
+    step-e : (p s s′ : ℕ) → p < t → PairStep allow next t p s p′ s′ → T (rowsHas new p′ s′) → T (e p s)
     step-e p s s′ h st x =
         let y = g .fresh p′ s′ below-t x in
         let r = held-in _ _ s (st .allowed) in
-        let up = upTo (16 * p + p′) s (omega arith) (st .allowed) in
+        let up = upTo (cell p p′) s (omega arith) (st .allowed) in
         let b = back-of n next back transposed s s′ (held-in _ _ s′ y .0) (g .upTo p′ s′ below-t y) (r .0) (r .1) up (st .moves) in
         and-both (ltb p t) (enters allow p′ (turn .prev) p s) (lt→ltb p t h)
-        (and-both (rowsHas allow (16 * p + p′) s) (turn .prev s) (st .allowed) (turn .before s .1 (s′, x, b)))
+        (and-both (rowsHas allow (cell p p′) s) (turn .prev s) (st .allowed) (turn .before s .1 (s′, x, b)))
 
-    done : (p s q s′ : ℕ) → p < t → Steps allow next t p s q s′ → T (rowsHas ys′ q s′) → T (rowsHas ys′ p s) ⊎ T (rowsHas new′ q s′)
+    done : (p s q s′ : ℕ) → p < t → PairStep allow next t p s q s′ → T (rowsHas ys′ q s′) → T (rowsHas ys′ p s) ⊎ T (rowsHas new′ q s′)
     done p s q s′ h st x = ⊎-elim old fresh (test (rowsHas ys q s′))
       where
         fresh : T (not (rowsHas ys q s′)) → T (rowsHas ys′ p s) ⊎ T (rowsHas new′ q s′)
@@ -126,7 +127,7 @@ module _ {allow back : List ℕ} {t p′ time : ℕ} {ys new times ys′ new′ 
       keeps = λ p s h x. still p s (g .keeps p s h x);
       reaches = λ p s h x. ⊎-elim (g .reaches p s h) (λ y. let r = e-step p s y in there (r .1) (g .reaches p′ (r .0) below-t (r .2))) (met-cases p s x);
       fresh = λ p s h x. ⊎-elim (λ y. still p s (g .fresh p s h (y .0))) (λ y. added p s (y .0)) (new-cases p s x);
-      upTo = λ p s h x. ⊎-elim (g .upTo p s h) (λ y. upTo (16 * p + p′) s (omega arith) (e-allowed p s y)) (met-cases p s x);
+      upTo = λ p s h x. ⊎-elim (g .upTo p s h) (λ y. upTo (cell p p′) s (omega arith) (e-allowed p s y)) (met-cases p s x);
       done = done;
       falls = falls;
       early = early;

@@ -9,9 +9,10 @@ use lib.ListN.{length}
 use lib.Dec.{T, T-not, not-T, eqb, eqb→eq}
 use Rattle.sheets.specs.Words.{each}
 use Rattle.sheets.proofs.Tests.{failed, and-left, and-right, and-both, eqb-same, eqb-other}
+use Rattle.truth.specs.Sizes.{membersMost}
 use Rattle.truth.specs.Rows.{held, rowsHas}
 use Rattle.truth.specs.Pairs.{timeOf, Timed}
-use Rattle.truth.specs.Growing.{Marked, Spread}
+use Rattle.truth.specs.Growing.{TimePut, Spread}
 use Rattle.truth.proofs.rows.RowLaws.{held-in, none-passes}
 
 -- the nodes x of E that were not met
@@ -21,7 +22,7 @@ or-new false e = and-true e
 
 module _ (E x : ℕ → Bool) (p time : ℕ) (ys new times ys′ new′ times′ : List ℕ) (x-is : (s : ℕ) → x s ≡ (E s && not (rowsHas ys p s))) where
   module _ (ys-size : length ys′ ≡ length ys) (new-size : length new′ ≡ length new) (met : (q s : ℕ) → rowsHas ys′ q s ≡ (rowsHas ys q s || (eqb q p && x s)))
-      (fresh : (q s : ℕ) → rowsHas new′ q s ≡ (rowsHas new q s || (eqb q p && x s))) (marked : Marked x p time times times′) where
+      (fresh : (q s : ℕ) → rowsHas new′ q s ≡ (rowsHas new q s || (eqb q p && x s))) (put : TimePut x p time times times′) where
     met-is : (q s : ℕ) → rowsHas ys′ q s ≡ (rowsHas ys q s || (eqb q p && E s))
     met-is q s = met q s ∙ by-cases (ℕ-discrete q p) (λ e. rw (e, eqb-same p, x-is s) (or-new (rowsHas ys p s) (E s))) (λ n. rw (eqb-other q p n))
 
@@ -31,18 +32,18 @@ module _ (E x : ℕ → Bool) (p time : ℕ) (ys new times ys′ new′ times′
     kept-is : (q s : ℕ) → T (rowsHas ys q s) → timeOf times′ q s ≡ timeOf times q s
     kept-is q s t =
         let r = held-in _ _ s t in
-        marked .rest q s (r .0) (r .1) (λ e. not-T (x s) (λ y. T-not (rowsHas ys p s) (and-right (E s) (not (rowsHas ys p s)) (rw (x-is s) at y)) (rw e at t)))
+        put .rest q s (r .0) (r .1) (λ e. not-T (x s) (λ y. T-not (rowsHas ys p s) (and-right (E s) (not (rowsHas ys p s)) (rw (x-is s) at y)) (rw e at t)))
 
     timed-is : Timed times → (q s : ℕ) → T (not (rowsHas ys q s)) → T (eqb q p && E s) → timeOf times′ q s ≡ time
     timed-is h q s n t =
         let e = eqb→eq q p (and-left (eqb q p) (E s) t) in
-        rw e (marked .marks h s (rw (x-is s) (and-both (E s) (not (rowsHas ys p s)) (and-right (eqb q p) (E s) t) (rw e at n))))
+        rw e (put .timed h s (rw (x-is s) (and-both (E s) (not (rowsHas ys p s)) (and-right (eqb q p) (E s) t) (rw e at n))))
 
     pub spread-one : Spread (λ q s. eqb q p && E s) time ys new times ys′ new′ times′
     spread-one = record {
       ys-size = ys-size;
       new-size = new-size;
-      times-size = marked .size;
+      times-size = put .size;
       met = met-is;
       fresh = fresh-is;
       kept = kept-is;
@@ -51,10 +52,10 @@ module _ (E x : ℕ → Bool) (p time : ℕ) (ys new times ys′ new′ times′
 
 -- nothing to add
 module _ (E : ℕ → Bool) (a b p time : ℕ) (ys new times : List ℕ) (x-is : (s : ℕ) → held a b s ≡ (E s && not (rowsHas ys p s))) where
-  pub spread-empty : true ≡ each 128 (λ s. not (held a b s)) → Spread (λ q s. eqb q p && E s) time ys new times ys new times
+  pub spread-empty : true ≡ each membersMost (λ s. not (held a b s)) → Spread (λ q s. eqb q p && E s) time ys new times ys new times
   spread-empty e =
       spread-one E (held a b) p time ys new times ys new times x-is refl refl (λ q s. unchanged (rowsHas ys q s) q s) (λ q s. unchanged (rowsHas new q s) q s)
-      (record { size = refl; marks = λ h s t. absurd (rw (gone s) at t); rest = λ q s lo hi n. refl })
+      (record { size = refl; timed = λ h s t. absurd (rw (gone s) at t); rest = λ q s lo hi n. refl })
     where
       gone : (s : ℕ) → held a b s ≡ false
       gone s = failed (held a b s) (not-T (held a b s) (none-passes (held a b) (held-in a b) (sym e) s))
@@ -63,5 +64,5 @@ module _ (E : ℕ → Bool) (a b p time : ℕ) (ys new times : List ℕ) (x-is :
       unchanged y q s = rw (gone s, and-false (eqb q p), or-false y)
 
 -- no time is written where none is kept
-pub unmarked : {f : ℕ → Bool} {p time : ℕ} {times : List ℕ} → (Timed times → ⊥) → Marked f p time times times
-unmarked none = record { size = refl; marks = λ h s t. absurd (none h); rest = λ q s lo hi n. refl }
+pub no-time-put : {f : ℕ → Bool} {p time : ℕ} {times : List ℕ} → (Timed times → ⊥) → TimePut f p time times times
+no-time-put none = record { size = refl; timed = λ h s t. absurd (none h); rest = λ q s lo hi n. refl }

@@ -11,11 +11,12 @@ use Rattle.sheets.specs.Words.{word}
 use Rattle.sheets.specs.Questions.{firstNo}
 use Rattle.sheets.specs.Machine.{nodes}
 use Rattle.sheets.specs.Rules.{lent, lines}
+use Rattle.sheets.specs.Sheets.{sheetOf}
 use Rattle.sheets.proofs.AcceptedMachine.{nodes-sized}
 use Rattle.sheets.proofs.AcceptedRule.{some-line}
 use Rattle.truth.specs.Rows.{held, tally}
-use Rattle.truth.specs.Labelling.{labelQuestions, sheetOf, Rows, rowOnes, StartsIn, percent}
-use Rattle.truth.specs.Answers.{refusalOf, Leaves, LabelAnswer}
+use Rattle.truth.specs.Labelling.{labelQuestions, Rows, rowOnes, StartsIn, percent}
+use Rattle.truth.specs.LabelAnswers.{refusalOf, Leaves, LabelAnswer}
 use Rattle.truth.specs.declared.labelling.Labelled.the-variants.{Refused, Done}
 use Rattle.truth.proofs.tables.RowBits.{row-bit}
 use Rattle.truth.proofs.rows.RowLaws.{held-count}

@@ -21,7 +21,7 @@ use Rattle.sheets.proofs.BitLaws.{sum-same}
 use Rattle.truth.specs.Truth.{TrueAt}
 use Rattle.truth.specs.Rows.{held}
 use Rattle.truth.specs.Labelling.{rowBit, rowOnes, Rows, HowMany, none, one-more, no-more}
-use Rattle.truth.specs.Answers.{refusalOf, Leaves, LabelAnswer}
+use Rattle.truth.specs.LabelAnswers.{refusalOf, Leaves, LabelAnswer}
 use Rattle.truth.specs.declared.labelling.Labelled.the-variants.{Done}
 use Rattle.truth.proofs.rows.RowLaws.{tally-number, sum-split, held-count}
 use Rattle.truth.proofs.tables.RowBits.{row-bit}

@@ -19,7 +19,7 @@ use Rattle.sheets.proofs.AcceptedMachine.{nodes-sized}
 use Rattle.sheets.proofs.AcceptedRule.{some-line}
 use Rattle.truth.specs.Truth.{TrueAt, Keeps}
 use Rattle.truth.specs.Labelling.{rowBit, Rows, percent}
-use Rattle.truth.specs.Answers.{refusalOf, LabelledAs, Leaves, LabelAnswer}
+use Rattle.truth.specs.LabelAnswers.{refusalOf, LabelledAs, Leaves, LabelAnswer}
 use Rattle.truth.specs.Worked.{Labels}
 use Rattle.truth.specs.declared.labelling.Labelled.{Labelled}
 use Rattle.truth.specs.declared.labelling.Labelled.the-variants.{Refused, Done}

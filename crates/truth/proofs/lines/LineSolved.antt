@@ -20,8 +20,8 @@ use Rattle.sheets.proofs.RisingChains.{one-position}
 use Rattle.truth.specs.Truth.{Valuation}
 use Rattle.truth.specs.Labelling.{rowBit, rowTruths}
 use Rattle.truth.specs.Rows.{rowsHas}
-use Rattle.truth.specs.Pairs.{edgeIn, Steps, Least, Greatest}
-use Rattle.truth.specs.Walked.{Looped}
+use Rattle.truth.specs.Pairs.{edgeIn, PairStep, Least, Greatest}
+use Rattle.truth.specs.Trails.{Looped}
 use Rattle.truth.specs.Lists.{Step, Lasso}
 use Rattle.truth.specs.Product.{argument, argumentAt, stateAt, good, Allowed, GoodRows}
 use Rattle.truth.specs.OneLine.{Successors, Holds, nodeSet}
@@ -122,7 +122,7 @@ module _ (M R : List ℕ) (machine-ok : machineRefusal M ≡ 0) (rule-ok : ruleR
           (λ i l in-range h. let k = in-range (omega arith) in stays (node i) (node (suc i)) (k .0) (k .1) (walk .steps i l h .moves))
 
       -- a step of the walk is a step of the automaton and an edge
-      takes : (i k : ℕ) → 1 ≤ i → i ≤ len → Steps allow next t (position i) (node i) (position k) (node k)
+      takes : (i k : ℕ) → 1 ≤ i → i ≤ len → PairStep allow next t (position i) (node i) (position k) (node k)
           → Step (automaton R x) (rowTruths rows) (argument R j) (node i) (stateAt R x (position i)) (stateAt R x (position k))
       unfolding automaton
       takes i k l h step =
@@ -134,7 +134,7 @@ module _ (M R : List ℕ) (machine-ok : machineRefusal M ≡ 0) (rule-ok : ruleR
             goes = rw (goes-as (node i) (v .0) (r .0) (r .1) (v .1) (position i) (position k) (walk .below i l h) (step .below)) at (step .allowed);
           }
 
-      edge-along : (i k : ℕ) → 1 ≤ i → i ≤ len → Steps allow next t (position i) (node i) (position k) (node k) → T (kripke M .edge (node i) (node k))
+      edge-along : (i k : ℕ) → 1 ≤ i → i ≤ len → PairStep allow next t (position i) (node i) (position k) (node k) → T (kripke M .edge (node i) (node k))
       edge-along i k l h step = let r = walk-node i l h in edges (node i) (node k) (r .0) (r .1) .0 (step .moves)
 
       pub lasso : Lasso (kripke M) (automaton R x) (rowTruths rows) (argument R j) (good exchanged R) s node (λ i. stateAt R x (position i)) len back

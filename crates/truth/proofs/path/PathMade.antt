@@ -12,19 +12,20 @@ use Rattle.sheets.specs.Words.{within, indicator}
 use Rattle.sheets.specs.Questions.{none as noRefusal, firstNo}
 use Rattle.sheets.specs.Machine.{nodes, machineRefusal}
 use Rattle.sheets.specs.Rules.{lent, fits, lines, lineWord, statesOf, q7, ruleRefusal}
+use Rattle.sheets.specs.Sheets.{sheetOf}
 use Rattle.sheets.proofs.Tests.{and-left, and-right}
 use Rattle.sheets.proofs.Search.{within-at}
 use Rattle.sheets.proofs.Questions.{AllYes, rule-answers}
+use Rattle.sheets.proofs.SheetTable.{BothAccepted, Sheeted, call-accepted, call-refused, call-none}
 use Rattle.truth.specs.Truth.{TrueAt}
-use Rattle.truth.specs.Labelling.{sheetOf, RowsTo}
+use Rattle.truth.specs.Labelling.{RowsTo}
 use Rattle.truth.specs.OneLine.{Ready, PathReady, Holds}
-use Rattle.truth.specs.Walked.{placed}
+use Rattle.truth.specs.Trails.{placed}
 use Rattle.truth.specs.Path.{asked, q18, q19, pathQuestions}
 use Rattle.truth.specs.PathAnswers.{refusalOf, MadePath, MadeFor}
 use Rattle.truth.specs.Shows.{ShowsLine}
 use Rattle.truth.specs.declared.path.Shown.{Shown}
 use Rattle.truth.specs.declared.path.Shown.the-variants.{Refused, NoPath, Path}
-use Rattle.truth.proofs.labelling.LabelTable.{Sheeted, refusal-whole, none-whole, machine-whole, rules-whole, last-whole}
 use Rattle.truth.proofs.path.PathTable.{ownQuestions}
 use Rattle.truth.proofs.path.PathLines.{operation, operated, path-refers, holds-true, list-true}
 
@@ -44,30 +45,28 @@ module _ (M R : List ℕ) (j s room q : ℕ) (e : q ≡ firstNo (pathQuestions M
   pub refused : (i : ℕ) (list names : List ℕ) → (q ≡ 0 → ⊥) → i ≡ sheetOf q → MadeFor M R j s room list names (Refused q i)
   unfolding refusalOf MadePath pathQuestions
   refused i list names n f =
-      record { refusal = rw f (refusal-whole M R (ownQuestions M R j s room) own-sheeted q e n); made = omega arith }
+      record { refusal = rw f (call-refused M R (ownQuestions M R j s room) own-sheeted q e n); made = omega arith }
 
   module _ (z : q ≡ 0) where
     none-asked : noRefusal ≡ firstNo (pathQuestions M R j s room)
     unfolding pathQuestions
-    none-asked = none-whole M R (ownQuestions M R j s room) own-sheeted (sym z ∙ e)
+    none-asked = call-none M R (ownQuestions M R j s room) own-sheeted (sym z ∙ e)
+
+    accepted : BothAccepted M R × AllYes (ownQuestions M R j s room)
+    unfolding pathQuestions
+    accepted = call-accepted M R (ownQuestions M R j s room) (sym z ∙ e)
 
     pub machine-accepted : machineRefusal M ≡ 0
-    unfolding pathQuestions
-    machine-accepted = machine-whole M R (ownQuestions M R j s room) (sym z ∙ e)
+    machine-accepted = accepted .0 .machine
 
     pub rules-accepted : ruleRefusal lent R ≡ 0
-    unfolding pathQuestions
-    rules-accepted = rules-whole M R (ownQuestions M R j s room) (sym z ∙ e)
-
-    own-accepted : AllYes (ownQuestions M R j s room)
-    unfolding pathQuestions
-    own-accepted = last-whole M R (ownQuestions M R j s room) (sym z ∙ e)
+    rules-accepted = accepted .0 .rules
 
     -- line k is the asked one
     module _ (k : ℕ) (ek : k ≡ asked R j) where
       line-accepted : T (within 1 (lines R) k && within 1 (nodes M) s && within 3 4 (lineWord lent R k 0))
       unfolding q18
-      line-accepted = rw ek (own-accepted .0)
+      line-accepted = rw ek (accepted .1 .0)
 
       pub line-in : (1 ≤ k) × (k ≤ lines R)
       line-in = within-at 1 (lines R) k (let t = line-accepted in search (and-left, t))
@@ -80,7 +79,7 @@ module _ (M R : List ℕ) (j s room q : ℕ) (e : q ≡ firstNo (pathQuestions M
 
       room-enough : nodes M * length (statesOf R (lineWord lent R k 1)) ≤ room
       unfolding q19
-      room-enough = rw ek (leb→le _ room (own-accepted .1 .0))
+      room-enough = rw ek (leb→le _ room (accepted .1 .1 .0))
 
       -- the rows are those of the lines above it, and x and op are its words
       module _ (before rows : List ℕ) (written : RowsTo M R (k - 1) before rows) (x op : ℕ) (ex : x ≡ lineWord lent R k 1)

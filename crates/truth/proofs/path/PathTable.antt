@@ -5,38 +5,28 @@ use mathlib.Core.Logic.{⊎-elim}
 use Prim.Native.Nat.{ℕ, zero, suc, _*_, min, _≤_}
 use native.Mathlib.Omega.{arith}
 use native.Mathlib.Nat.{mul-le-mul-left}
-use mathlib.Core.List.{List, [], _∷_, _++_}
-use mathlib.Core.Bool.{Bool, true, false, not, _&&_}
-use borrow.Author.Tests.{le-leb, lt-leb, not-true, not-false}
+use mathlib.Core.List.{List, [], _∷_}
+use mathlib.Core.Bool.{Bool, _&&_}
+use borrow.Author.Tests.{le-leb, lt-leb}
 use lib.ListN.{length}
 use lib.Dec.{T, leb}
 use Rattle.sheets.specs.Words.{within}
 use Rattle.sheets.specs.Questions.{Question, ask, firstNo}
-use Rattle.sheets.specs.Machine.{signals, nodes, machineQuestions, machineRefusal}
-use Rattle.sheets.specs.Rules.{lent, lines, automata, lineWord, lineFits, pathFits, overSignals, statesOf, ruleQuestions, ruleRefusal}
+use Rattle.sheets.specs.Machine.{nodes, machineRefusal}
+use Rattle.sheets.specs.Rules.{lent, lines, automata, lineWord, lineFits, pathFits, statesOf, ruleRefusal}
+use Rattle.sheets.specs.Sheets.{sheetQuestions}
 use Rattle.sheets.proofs.Tests.{and-left, and-right}
 use Rattle.sheets.proofs.Search.{within-at, le-or-gt}
-use Rattle.sheets.proofs.Questions.{all-yes, Finds, none, yes, no, rule-answers}
+use Rattle.sheets.proofs.Questions.{all-yes, same-rest, rule-answers}
+use Rattle.sheets.proofs.SheetTable.{both-accepted}
 use Rattle.sheets.proofs.AcceptedMachine.{nodes-sized}
 use Rattle.sheets.proofs.AcceptedRule.{line-fits}
 use Rattle.sheets.proofs.ReachedPositions.{few-states}
 use Rattle.truth.specs.Path.{asked, q18, q19, pathQuestions}
-use Rattle.truth.proofs.labelling.LabelTable.{same-rest}
 
 -- the call's own questions
 abbrev pub ownQuestions : List ℕ → List ℕ → ℕ → ℕ → ℕ → List Question
 ownQuestions M R j s room = ask 18 0 (q18 M R j s) ∷ ask 19 0 (q19 M R j room) ∷ []
-
-module _ (M R : List ℕ) (j s room : ℕ) (a : Bool) (ea : a ≡ q18 M R j s) where
-  pub own-line : not a ≡ true → Finds (ownQuestions M R j s room) 18
-  own-line n = no (sym ea ∙ not-true a n)
-
-  module _ (y : not a ≡ false) (b : Bool) (eb : b ≡ q19 M R j room) where
-    pub own-room : not b ≡ true → Finds (ownQuestions M R j s room) 19
-    own-room n = yes (sym ea ∙ not-false a y) (no (sym eb ∙ not-true b n))
-
-    pub own-none : not b ≡ false → Finds (ownQuestions M R j s room) 0
-    own-none z = yes (sym ea ∙ not-false a y) (yes (sym eb ∙ not-false b z) none)
 
 -- a path line of an accepted sheet names one of its automata
 path-automaton : (R : List ℕ) (j op : ℕ) → T (within 3 4 op) → T (lineFits lent R j op) → T (within 1 (automata R) (lineWord lent R j 1))
@@ -80,24 +70,21 @@ least-room p room h = ⊎-elim (λ l. le-leb p (min room 2048) (omega arith) ∙
 
 module _ (M R : List ℕ) (j s : ℕ) where
   abbrev lineOn : List Question
-  lineOn = ask 16 0 (overSignals lent (signals M) R) ∷ ask 18 0 (q18 M R j s) ∷ []
+  lineOn = ask 18 0 (q18 M R j s) ∷ []
 
   abbrev roomOn : ℕ → List Question
   roomOn room = ask 19 0 (q19 M R j room) ∷ []
 
-  abbrev ruleOn : ℕ → List Question
-  ruleOn room = ruleQuestions lent R ++ (lineOn ++ roomOn room)
-
-  room-same : (room : ℕ) → machineRefusal M ≡ 0 → ruleRefusal lent R ≡ 0 → firstNo lineOn .number ≡ 0 → firstNo (roomOn (min room 2048)) ≡ firstNo (roomOn room)
+  room-same : (room : ℕ) → firstNo (sheetQuestions M R) .number ≡ 0 → firstNo lineOn .number ≡ 0 → firstNo (roomOn (min room 2048)) ≡ firstNo (roomOn room)
   unfolding q19
-  room-same room machine rules own =
-      let most = pairs-most M R j s machine rules (all-yes lineOn own .1 .0) in
+  room-same room sheets own =
+      let both = both-accepted M R sheets in
+      let most = pairs-most M R j s (both .machine) (both .rules) (all-yes lineOn own .0) in
       ap (λ (b : Bool). firstNo (ask 19 0 b ∷ [])) (least-room (nodes M * length (statesOf R (lineWord lent R (asked R j) 1))) room most)
 
   -- more room than that changes no answer
   pub room-most : (room : ℕ) → firstNo (pathQuestions M R j s (min room 2048)) ≡ firstNo (pathQuestions M R j s room)
-  unfolding pathQuestions machineRefusal ruleRefusal
+  unfolding pathQuestions
   room-most room =
-      same-rest (machineQuestions 1 M) (ruleOn (min room 2048)) (ruleOn room)
-      (λ machine. same-rest (ruleQuestions lent R) (lineOn ++ roomOn (min room 2048)) (lineOn ++ roomOn room)
-      (λ rules. same-rest lineOn (roomOn (min room 2048)) (roomOn room) (λ own. room-same room machine rules own)))
+      same-rest (sheetQuestions M R) (ownQuestions M R j s (min room 2048)) (ownQuestions M R j s room)
+      (λ sheets. same-rest lineOn (roomOn (min room 2048)) (roomOn room) (λ own. room-same room sheets own))

@@ -18,7 +18,7 @@ use Rattle.truth.specs.Labelling.{rowTruths}
 use Rattle.truth.specs.Product.{argument, good, stateAt}
 use Rattle.truth.specs.Pairs.{Timed}
 use Rattle.truth.specs.OneLine.{PathReady, Holds, SolvedLine}
-use Rattle.truth.specs.Walked.{Looped, Walkable, placed}
+use Rattle.truth.specs.Trails.{Looped, Traceable, placed}
 use Rattle.truth.specs.Shows.{ShowsLine}
 use Rattle.truth.specs.declared.path.Shown.the-variants.{NoPath, Path}
 use Rattle.truth.proofs.lines.PathRows.{states-few, allow-up, lasting-up, some-state, path-row-of}
@@ -47,8 +47,8 @@ module _ (M R next back rows : List ℕ) (j x : ℕ) (path : PathReady M R next 
     few-nodes : n ≤ 128
     few-nodes = rw counted (nodes-sized M (path .ready .machine) .1)
 
-    pub walkable : Timed times → Walkable allow next t n xs ys times s
-    walkable timed = record {
+    pub traceable : Timed times → Traceable allow next t n xs ys times s
+    traceable timed = record {
       few = few;
       nodes = few-nodes;
       some = rw chained (some-state M R next back rows j x path exchanged allow xs ys times solved);

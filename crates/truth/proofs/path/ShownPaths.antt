@@ -11,7 +11,7 @@ use Rattle.sheets.specs.Structures.{Kripke, Automaton, Line, signal, negation, 
 use Rattle.sheets.specs.Machine.{kripke}
 use Rattle.sheets.specs.Rules.{lent, automaton, line}
 use Rattle.truth.specs.Truth.{Truths, TrueAt}
-use Rattle.truth.specs.Walked.{placed}
+use Rattle.truth.specs.Trails.{placed}
 use Rattle.truth.specs.Path.{asked, Shows, ShowsPath, ShownPath}
 use Rattle.truth.specs.PathAnswers.{lengthOf, MadePath, MadeFor, Leaves, PathAnswer}
 use Rattle.truth.specs.declared.path.Shown.{Shown}

@@ -1,16 +1,17 @@
 -- The lowest and the highest node of a row: the lowest set bit of the lower word that has one, the highest of the upper.
-use mathlib.Core.Path.{_≡_, refl, subst, _∙_}
+use mathlib.Core.Path.{_≡_, refl, _∙_}
 use mathlib.Core.Logic.{_⊎_, inl, inr, ⊎-elim}
-use Prim.Native.Nat.{ℕ, zero, suc, _+_, _-_, _*_, _/_, _%_, _^_, _≤_, _<_}
+use Prim.Native.Nat.{ℕ, zero, suc, _+_, _-_, _/_, _%_, _^_, _≤_, _<_}
 use native.Mathlib.Nat.{pow-succ', div-eq-of-lt-le}
 use native.Mathlib.Omega.{arith}
 use mathlib.Core.Bool.{true}
-use lib.Dec.{T, eqb}
+use lib.Dec.{T}
 use lib.Count.{trailingZeros, leadingZeros, leading-top}
 use Rattle.sheets.specs.Words.{bit}
 use Rattle.sheets.proofs.Search.{le-or-gt}
 use Rattle.sheets.proofs.Bits.{odd-or-even, bit-zero, bit-suc, no-bit}
 use Rattle.sheets.proofs.BitLaws.{bit-above}
+use Rattle.truth.specs.Sizes.{membersMost}
 use Rattle.truth.specs.Rows.{held, Foremost, First, Last}
 use Rattle.truth.proofs.rows.RowLaws.{held-in, held-low, held-high, held-lower, held-upper, held-none}
 
@@ -109,7 +110,7 @@ module _ (a b : ℕ) where
       last-at a 1 (omega arith) (held-lower a b) some small 64 refl
       (λ s t. ⊎-elim (λ l. inr (l .0, l .2)) (λ h. absurd (no-bit (s - 65) (rw e at (h .1)))) (by-word s t))
 
-  pub last-high : 0 < b → b < 2 ^ 64 → Last (held a b) (128 - leadingZeros 64 b % 64)
+  pub last-high : 0 < b → b < 2 ^ 64 → Last (held a b) (membersMost - leadingZeros 64 b % 64)
   last-high some small =
-      last-at b 65 (omega arith) (held-upper a b) some small 128 refl
+      last-at b 65 (omega arith) (held-upper a b) some small membersMost refl
       (λ s t. ⊎-elim (λ l. inl (omega (arith, l .1))) (λ h. inr (omega (arith, h .0), h .1)) (by-word s t))

@@ -12,6 +12,7 @@ use Rattle.sheets.specs.Words.{within}
 use Rattle.sheets.proofs.Tests.{and-left, and-right, and-both, or-left, or-right, or-cases, eqb-other}
 use Rattle.sheets.proofs.Search.{within-in}
 use Rattle.sheets.proofs.Counting.{number, number-strict}
+use Rattle.truth.specs.Sizes.{membersMost}
 use Rattle.truth.specs.Rows.{held, rowsHas, Foremost}
 use Rattle.truth.specs.Pairs.{Before}
 use Rattle.truth.proofs.rows.RowLaws.{held-in}
@@ -24,7 +25,7 @@ module _ {before : ℕ → ℕ → Type 0} (p : ℕ → Bool) (r : ℕ) (f : For
   pub one-left : (r ≡ 0 → ⊥) → T (p r)
   one-left n = rw (f .found n) tt
 
-pub one-within : {before : ℕ → ℕ → Type 0} (a b r : ℕ) → Foremost before (held a b) r → (r ≡ 0 → ⊥) → (1 ≤ r) × (r ≤ 128)
+pub one-within : {before : ℕ → ℕ → Type 0} (a b r : ℕ) → Foremost before (held a b) r → (r ≡ 0 → ⊥) → (1 ≤ r) × (r ≤ membersMost)
 one-within a b r f n = held-in a b r (one-left (held a b) r f n)
 
 -- ---- a node taken out
@@ -41,8 +42,8 @@ module _ (left left′ : ℕ → Bool) (u : ℕ) (less : Less left u left′) wh
   pub less-or : (i : ℕ) → T (left i) → (i ≡ u) ⊎ T (left′ i)
   less-or i t = by-cases (ℕ-discrete i u) inl (λ n. inr (rw (less i, eqb-other i u n) (and-both (left i) true t tt)))
 
-  pub less-falls : 1 ≤ u → u ≤ 128 → T (left u) → number 128 left′ < number 128 left
-  less-falls lo hi t = number-strict 128 left′ left (λ i l h. less-in i) (u, lo, hi, (out, t))
+  pub less-falls : 1 ≤ u → u ≤ membersMost → T (left u) → number membersMost left′ < number membersMost left
+  less-falls lo hi t = number-strict membersMost left′ left (λ i l h. less-in i) (u, lo, hi, (out, t))
     where
       out : T (not (left′ u))
       out = not-T (left′ u) (λ x. T-not (eqb u u) (and-right (left u) (not (eqb u u)) (rw (less u) at x)) (eqb-refl u))
@@ -97,11 +98,11 @@ module _ (P : ℕ → Type 0) (look : ℕ → Bool) where
       others = λ s x. ⊎-elim (λ l. ⊎-elim (λ e. inr (inr (rw e y))) inl (less-or left left′ u less s l)) inr (g .others s x);
     }
 
-    module _ (out′ : ℕ → Bool) (more : (i : ℕ) → out′ i ≡ (out i || (within 1 128 u && eqb i u))) where
+    module _ (out′ : ℕ → Bool) (more : (i : ℕ) → out′ i ≡ (out i || (within 1 membersMost u && eqb i u))) where
       more-cases : (s : ℕ) → T (out′ s) → T (out s) ⊎ (s ≡ u)
-      more-cases s x = ⊎-map (λ o. o) (λ w. eqb→eq s u (and-right (within 1 128 u) (eqb s u) w)) (or-cases (out s) (within 1 128 u && eqb s u) (rw (more s) at x))
+      more-cases s x = ⊎-map (λ o. o) (λ w. eqb→eq s u (and-right (within 1 membersMost u) (eqb s u) w)) (or-cases (out s) (within 1 membersMost u && eqb s u) (rw (more s) at x))
 
-      pub sorted-no : 1 ≤ u → u ≤ 128 → (P u → ⊥) → Sorted P look left′ out′
+      pub sorted-no : 1 ≤ u → u ≤ membersMost → (P u → ⊥) → Sorted P look left′ out′
       sorted-no lo hi n = record {
         rest = λ s x. g .rest s (less-in left left′ u less s x);
         fewer = λ s x. ⊎-elim (g .fewer s) (λ e. rw e (g .rest u t)) (more-cases s x);
@@ -110,10 +111,10 @@ module _ (P : ℕ → Type 0) (look : ℕ → Bool) where
       }
         where
           here : T (out′ u)
-          here = rw (more u) (or-right (out u) (within 1 128 u && eqb u u) (and-both (within 1 128 u) (eqb u u) (within-in 1 128 u lo hi) (eqb-refl u)))
+          here = rw (more u) (or-right (out u) (within 1 membersMost u && eqb u u) (and-both (within 1 membersMost u) (eqb u u) (within-in 1 membersMost u lo hi) (eqb-refl u)))
 
           was : (s : ℕ) → T (out s) → T (out′ s)
-          was s o = rw (more s) (or-left (out s) (within 1 128 u && eqb s u) o)
+          was s o = rw (more s) (or-left (out s) (within 1 membersMost u && eqb s u) o)
 
 -- ---- the members visited: P holds of those that are not left
 pub record Visited (P : ℕ → Type 0) (from left : ℕ → Bool) : Type 0 where

@@ -12,6 +12,7 @@ use lib.Dec.{T, not-T, eqb, leb}
 use Rattle.sheets.specs.Words.{within}
 use Rattle.sheets.proofs.Tests.{passed, failed, eqb-same, eqb-other}
 use Rattle.sheets.proofs.Search.{le-or-gt}
+use Rattle.truth.specs.Sizes.{membersMost, tableWords}
 use Rattle.truth.specs.Rows.{rowsHas}
 use Rattle.truth.specs.Links.{Joined, AddedBefore}
 use Rattle.truth.proofs.rows.RowLaws.{not-in-row}
@@ -22,7 +23,7 @@ use Rattle.truth.proofs.tables.TableLaws.{zero-row}
 
 -- whether i is the node that is added
 abbrev one : ℕ → ℕ → Bool
-one s i = within 1 128 s && eqb i s
+one s i = within 1 membersMost s && eqb i s
 
 pub record Adding (set left : ℕ → Bool) (s : ℕ) (before after : List ℕ) : Type 0 where
   pub fewer : (u : ℕ) → T (left u) → T (set u)
@@ -65,33 +66,33 @@ module _ (set : ℕ → Bool) (s : ℕ) (before : List ℕ) where
 -- ---- the nodes 1 to s, added to the rows of their successors
 
 abbrev pub Earlier : List ℕ → ℕ → List ℕ → Type 0
-Earlier next s out = (t i : ℕ) → 1 ≤ t → rowsHas out (t - 1) i ≡ (leb i s && (within 1 128 i && rowsHas next (i - 1) t))
+Earlier next s out = (t i : ℕ) → 1 ≤ t → rowsHas out (t - 1) i ≡ (leb i s && (within 1 membersMost i && rowsHas next (i - 1) t))
 
-pub earlier-none : (next : List ℕ) → Earlier next 0 (replicate 512 0)
-earlier-none next t i lo = zero-row 512 (t - 1) i ∙ by-cases (ℕ-discrete i 0) first later
+pub earlier-none : (next : List ℕ) → Earlier next 0 (replicate tableWords 0)
+earlier-none next t i lo = zero-row tableWords (t - 1) i ∙ by-cases (ℕ-discrete i 0) first later
   where
-    first : i ≡ 0 → false ≡ (leb i 0 && (within 1 128 i && rowsHas next (i - 1) t))
+    first : i ≡ 0 → false ≡ (leb i 0 && (within 1 membersMost i && rowsHas next (i - 1) t))
     first e = rw (not-in-row i e, and-false (leb i 0))
 
-    later : (i ≡ 0 → ⊥) → false ≡ (leb i 0 && (within 1 128 i && rowsHas next (i - 1) t))
+    later : (i ≡ 0 → ⊥) → false ≡ (leb i 0 && (within 1 membersMost i && rowsHas next (i - 1) t))
     later n = rw (lt-leb i 0 (omega arith))
 
 pub earlier-next : (next out out′ : List ℕ) (s : ℕ) (row : ℕ → Bool) → ((t : ℕ) → row t ≡ rowsHas next s t) → Earlier next s out → AddedBefore row (s + 1) out out′
     → Earlier next (s + 1) out′
 earlier-next next out out′ s row is up added t i lo = by-cases (ℕ-discrete i (s + 1)) here other
   where
-    here : i ≡ s + 1 → rowsHas out′ (t - 1) i ≡ (leb i (s + 1) && (within 1 128 i && rowsHas next (i - 1) t))
+    here : i ≡ s + 1 → rowsHas out′ (t - 1) i ≡ (leb i (s + 1) && (within 1 membersMost i && rowsHas next (i - 1) t))
     here e =
         let h : s + 1 - 1 ≡ s = omega arith in
         rw e
         (added .rows t (s + 1) lo
-        ∙ rw (up t (s + 1) lo, lt-leb (s + 1) s (omega arith), is t, eqb-same (s + 1), and-true (within 1 128 (s + 1)), le-leb (s + 1) (s + 1) (omega arith), h)
-        (and-comm (rowsHas next s t) (within 1 128 (s + 1))))
+        ∙ rw (up t (s + 1) lo, lt-leb (s + 1) s (omega arith), is t, eqb-same (s + 1), and-true (within 1 membersMost (s + 1)), le-leb (s + 1) (s + 1) (omega arith), h)
+        (and-comm (rowsHas next s t) (within 1 membersMost (s + 1))))
 
-    other : (i ≡ s + 1 → ⊥) → rowsHas out′ (t - 1) i ≡ (leb i (s + 1) && (within 1 128 i && rowsHas next (i - 1) t))
+    other : (i ≡ s + 1 → ⊥) → rowsHas out′ (t - 1) i ≡ (leb i (s + 1) && (within 1 membersMost i && rowsHas next (i - 1) t))
     other n =
         added .rows t i lo
-        ∙ rw (up t i lo, eqb-other i (s + 1) n, and-false (within 1 128 (s + 1)), and-false (row t), or-false (leb i s && (within 1 128 i && rowsHas next (i - 1) t)), same)
+        ∙ rw (up t i lo, eqb-other i (s + 1) n, and-false (within 1 membersMost (s + 1)), and-false (row t), or-false (leb i s && (within 1 membersMost i && rowsHas next (i - 1) t)), same)
       where
         same : leb i s ≡ leb i (s + 1)
         same =

@@ -8,11 +8,12 @@ use mathlib.Core.List.{List}
 use lib.ListN.{getD}
 use Rattle.sheets.specs.Words.{word}
 use Rattle.sheets.proofs.Search.{le-or-gt}
+use Rattle.truth.specs.Sizes.{membersMost}
 use Rattle.truth.specs.Labelling.{rowBit}
 use Rattle.truth.specs.Rows.{rowsHas}
 use Rattle.truth.proofs.rows.RowLaws.{held-low, held-high}
 
-pub row-bit : (rows : List ℕ) (j s : ℕ) → 1 ≤ s → s ≤ 128 → rowBit rows j s ≡ rowsHas rows (j - 1) s
+pub row-bit : (rows : List ℕ) (j s : ℕ) → 1 ≤ s → s ≤ membersMost → rowBit rows j s ≡ rowsHas rows (j - 1) s
 unfolding rowBit word
 row-bit rows j s lo hi = ⊎-elim low high (le-or-gt s 64)
   where

@@ -11,6 +11,7 @@ use lib.ListN.{length, getD, set, length-set, replicate}
 use lib.Seq.{getD-set-same, getD-set-other}
 use lib.Dec.{eqb}
 use Rattle.sheets.proofs.Tests.{eqb-same, eqb-other}
+use Rattle.truth.specs.Sizes.{membersMost, pairAt}
 use Rattle.truth.specs.Rows.{held, rowHas, rowsHas}
 use Rattle.truth.specs.Pairs.{NoRow, Cleared, timeOf}
 use Rattle.truth.specs.declared.rows.Row.{Row}
@@ -95,8 +96,8 @@ empty-after B C k a b h e none i l s x = none i (omega arith) s (rw (stored-othe
 
 -- ---- a number stored by pair
 module _ (xs : List ℕ) (q v x : ℕ) where
-  pub time-here : 128 * q + (v - 1) < length xs → timeOf (set xs (128 * q + (v - 1)) x) q v ≡ x
-  time-here l = getD-set-same xs (128 * q + (v - 1)) x 0 l
+  pub time-here : pairAt q v < length xs → timeOf (set xs (pairAt q v) x) q v ≡ x
+  time-here l = getD-set-same xs (pairAt q v) x 0 l
 
-  pub time-other : 1 ≤ v → v ≤ 128 → (p u : ℕ) → 1 ≤ u → u ≤ 128 → (p ≡ q → u ≡ v → ⊥) → timeOf (set xs (128 * q + (v - 1)) x) p u ≡ timeOf xs p u
-  time-other lo hi p u a b differ = getD-set-other xs (128 * q + (v - 1)) (128 * p + (u - 1)) x 0 (λ e. differ (omega arith) (omega arith))
+  pub time-other : 1 ≤ v → v ≤ membersMost → (p u : ℕ) → 1 ≤ u → u ≤ membersMost → (p ≡ q → u ≡ v → ⊥) → timeOf (set xs (pairAt q v) x) p u ≡ timeOf xs p u
+  time-other lo hi p u a b differ = getD-set-other xs (pairAt q v) (pairAt p u) x 0 (λ e. differ (omega arith) (omega arith))

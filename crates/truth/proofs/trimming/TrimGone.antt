@@ -1,13 +1,14 @@
 -- Trimming by a row of what is gone: the row is emptied, and what was owed a step to it only has gone then.
 use mathlib.Core.Path.{_≡_, sym, _∙_}
 use mathlib.Core.Logic.{_⊎_, inr, _↔_, ⊎-elim, ⊎-map, by-cases}
-use Prim.Native.Nat.{ℕ, _+_, _-_, _*_, _<_}
+use Prim.Native.Nat.{ℕ, _-_, _<_}
 use native.Mathlib.Decide.{ℕ-discrete}
 use mathlib.Core.List.{List}
 use mathlib.Core.Bool.{Bool, true, false, not, and-false, true≢false}
 use lib.Dec.{T, eqb}
 use Rattle.sheets.specs.Words.{each}
 use Rattle.sheets.proofs.Tests.{and-left, and-both, eqb-same, eqb-other}
+use Rattle.truth.specs.Sizes.{membersMost, cell}
 use Rattle.truth.specs.Rows.{rowsHas}
 use Rattle.truth.specs.Pairs.{UpTo, Transposed, Before, Cleared, weight}
 use Rattle.truth.specs.Links.{Into}
@@ -29,7 +30,7 @@ trimmed-idle = record {
 module _ {allow next : List ℕ} (back : List ℕ) {t : ℕ} {xs : List ℕ} (gone : List ℕ) (p2 : ℕ) {gone₁ xs′ gone′ : List ℕ} (pre : ℕ → Bool)
     (clears : Cleared p2 gone gone₁) (preIs : (s : ℕ) → T (pre s) ↔ Before back (rowsHas gone p2) s)
     (m : Moved allow next t xs gone₁ xs′ gone′) (into : List ℕ) (known : Into allow into t)
-    (looked : (u : ℕ) → T (rowsHas into p2 u) → OwingTo allow next t p2 pre xs′ gone′ (u - 1)) (below : p2 < t) (some : each 128 (λ s. not (rowsHas gone p2 s)) ≡ false) where
+    (looked : (u : ℕ) → T (rowsHas into p2 u) → OwingTo allow next t p2 pre xs′ gone′ (u - 1)) (below : p2 < t) (some : each membersMost (λ s. not (rowsHas gone p2 s)) ≡ false) where
   was-gone : (q s : ℕ) → T (rowsHas gone₁ q s) → T (rowsHas gone q s)
   was-gone q s x = and-left (rowsHas gone q s) (not (eqb q p2)) (rw (clears .rows q s) at x)
 
@@ -52,7 +53,7 @@ module _ {allow next : List ℕ} (back : List ℕ) {t : ℕ} {xs : List ℕ} (go
       row y e =
           let h = r .2 in
           let z : T (rowsHas gone p2 (r .1)) = rw e at y in
-          let a : T (rowsHas allow (16 * p + p2) s) = rw e at (h .allowed) in
+          let a : T (rowsHas allow (cell p p2) s) = rw e at (h .allowed) in
           let w = held-in _ _ s x in
           let b = back-of n next back tr s (r .1) (held-in _ _ (r .1) z .0) (v p2 (r .1) below z) (w .0) (w .1) (u p s l (m .shrunk .fewer p s x)) (h .moves) in
           owing-all into known p2 pre xs′ gone′ below looked p l s x a (preIs s .1 (r .1, z, b))

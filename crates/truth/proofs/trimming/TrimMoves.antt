@@ -1,13 +1,14 @@
 -- Pairs moved from a set to what is gone, move after move; which pairs are owed a step then.
 use mathlib.Core.Path.{_≡_, refl, sym, _∙_}
 use mathlib.Core.Logic.{inl, inr, ⊎-elim, ⊎-map}
-use Prim.Native.Nat.{ℕ, _+_, _-_, _*_, _<_}
+use Prim.Native.Nat.{ℕ, _+_, _-_, _<_}
 use native.Mathlib.Omega.{arith}
 use mathlib.Core.List.{List}
 use mathlib.Core.Bool.{Bool, true, not, _&&_}
 use lib.Dec.{T, T-not}
 use Rattle.sheets.specs.Words.{each}
 use Rattle.sheets.proofs.Tests.{contrary, and-left, and-right, and-both}
+use Rattle.truth.specs.Sizes.{membersMost, cell}
 use Rattle.truth.specs.Rows.{rowsHas}
 use Rattle.truth.specs.Pairs.{Onward}
 use Rattle.truth.specs.Links.{Into}
@@ -17,7 +18,7 @@ use Rattle.truth.proofs.trimming.TrimTaken.{taken-fewer, taken-not, tak
 
 -- the nodes that are looked at in row p: those at which p may go to p2, of `pre`
 pub record Looked (allow : List ℕ) (p p2 : ℕ) (pre look : ℕ → Bool) (xs : List ℕ) : Type 0 where
-  pub is : (s : ℕ) → look s ≡ ((rowsHas xs p s && rowsHas allow (16 * p + p2) s) && pre s)
+  pub is : (s : ℕ) → look s ≡ ((rowsHas xs p s && rowsHas allow (cell p p2) s) && pre s)
 
 -- ---- move after move
 module _ {allow next : List ℕ} {t : ℕ} where
@@ -69,20 +70,20 @@ module _ {allow next : List ℕ} {t : ℕ} where
 
 -- ---- a row that was looked at
 module _ {allow : List ℕ} {p p2 : ℕ} {pre look : ℕ → Bool} {xs : List ℕ} (k : Looked allow p p2 pre look xs) where
-  looked : (s : ℕ) → T (rowsHas xs p s) → T (rowsHas allow (16 * p + p2) s) → T (pre s) → T (look s)
-  looked s x a y = rw (k .is s) (and-both (rowsHas xs p s && rowsHas allow (16 * p + p2) s) (pre s) (and-both (rowsHas xs p s) (rowsHas allow (16 * p + p2) s) x a) y)
+  looked : (s : ℕ) → T (rowsHas xs p s) → T (rowsHas allow (cell p p2) s) → T (pre s) → T (look s)
+  looked s x a y = rw (k .is s) (and-both (rowsHas xs p s && rowsHas allow (cell p p2) s) (pre s) (and-both (rowsHas xs p s) (rowsHas allow (cell p p2) s) x a) y)
 
-  of-both : (s : ℕ) → T (look s) → T (rowsHas xs p s && rowsHas allow (16 * p + p2) s)
-  of-both s x = and-left (rowsHas xs p s && rowsHas allow (16 * p + p2) s) (pre s) (rw (k .is s) at x)
+  of-both : (s : ℕ) → T (look s) → T (rowsHas xs p s && rowsHas allow (cell p p2) s)
+  of-both s x = and-left (rowsHas xs p s && rowsHas allow (cell p p2) s) (pre s) (rw (k .is s) at x)
 
   pub look-in : (s : ℕ) → T (look s) → T (rowsHas xs p s)
-  look-in s x = and-left (rowsHas xs p s) (rowsHas allow (16 * p + p2) s) (of-both s x)
+  look-in s x = and-left (rowsHas xs p s) (rowsHas allow (cell p p2) s) (of-both s x)
 
-  pub look-allowed : (s : ℕ) → T (look s) → T (rowsHas allow (16 * p + p2) s)
-  look-allowed s x = and-right (rowsHas xs p s) (rowsHas allow (16 * p + p2) s) (of-both s x)
+  pub look-allowed : (s : ℕ) → T (look s) → T (rowsHas allow (cell p p2) s)
+  look-allowed s x = and-right (rowsHas xs p s) (rowsHas allow (cell p p2) s) (of-both s x)
 
   -- nothing to look at
-  pub none-looked : (next : List ℕ) (t : ℕ) (gone : List ℕ) → true ≡ each 128 (λ s. not (look s)) → OwingTo allow next t p2 pre xs gone p
+  pub none-looked : (next : List ℕ) (t : ℕ) (gone : List ℕ) → true ≡ each membersMost (λ s. not (look s)) → OwingTo allow next t p2 pre xs gone p
   none-looked next t gone e s x a y = absurd (none-passes look (λ s l. held-in _ _ s (look-in s l)) (sym e) s (looked s x a y))
 
   module _ {next : List ℕ} {t : ℕ} {lost : ℕ → Bool} {gone xs′ gone′ : List ℕ} (f : Stuck allow next t xs p look lost) (taken : Taken p lost xs gone xs′ gone′) where

@@ -1,10 +1,18 @@
 -- `last_refusal` meets its contract: the first of the three questions that says no.
-use mathlib.Core.Path.{sym, _∙_}
+use mathlib.Core.Path.{_≡_, sym, _∙_}
 use native.Mathlib.Omega.{arith}
+use Rattle.truth.specs.Passed.{signals}
 use Rattle.comparison.proofs.CompareTable.{by-signals, by-nodes, by-space, by-none}
 use borrow.Author.Needs.{needs}
 use Rattle.comparison.proofs.compare.last_refusal.Statement.{statement}
 use Rattle.comparison.proofs.compare.last_refusal.Tie as tie
+
+abbrev start : tie.Else1 → tie.Start
+start c = c .before .before .before .before .before
+
+-- where the first test goes on, the signals agree
+same : (c : tie.Else1) → signals (start c .args .m1 .now) ≡ signals (start c .args .m2 .now)
+same c = sym (c .before .before .signals .ensures) ∙ c .if1 .left ∙ c .before .signals2 .ensures
 
 signals-requires : tie.Need-signals-requires
 signals-requires c κs = search needs
@@ -34,11 +42,12 @@ add-n c = search needs
 
 returns-2 : tie.Need-returns-2
 returns-2 c =
-    let a = c .before .before .before .before .before .before .before .before .args in
-    let same = sym (c .before .before .before .before .before .signals .ensures) ∙ c .before .before .before .if1 .left ∙ c .before .before .before .before .signals2 .ensures in
-    let one = c .before .before .nodes .ensures in
-    let two = c .before .nodes2 .ensures in
-    by-nodes (a .m1 .now) (a .m2 .now) (a .space) same (omega arith)
+    let counted = c .before in
+    let agreed = counted .before .before in
+    let a = start agreed .args in
+    let one = counted .before .nodes .ensures in
+    let two = counted .nodes2 .ensures in
+    by-nodes (a .m1 .now) (a .m2 .now) (a .space) (same agreed) (omega arith)
 
 cast-if3 : tie.Need-cast-if3
 cast-if3 c = search needs
@@ -57,19 +66,21 @@ add-if3-2 c = search needs
 
 returns-3 : tie.Need-returns-3
 returns-3 c =
-    let a = c .before .before .before .before .before .before .before .before .before .args in
-    let same = sym (c .before .before .before .before .before .before .signals .ensures) ∙ c .before .before .before .before .if1 .left ∙ c .before .before .before .before .before .signals2 .ensures in
-    let one = c .before .before .before .nodes .ensures in
-    let two = c .before .before .nodes2 .ensures in
-    by-space (a .m1 .now) (a .m2 .now) (a .space) same (omega arith) (omega (arith, c .before .before .before .before .before .before .signals .ensures))
+    let counted = c .before .before in
+    let agreed = counted .before .before in
+    let a = start agreed .args in
+    let one = counted .before .nodes .ensures in
+    let two = counted .nodes2 .ensures in
+    by-space (a .m1 .now) (a .m2 .now) (a .space) (same agreed) (omega arith) (omega (arith, agreed .before .before .signals .ensures))
 
 returns-4 : tie.Need-returns-4
 returns-4 c =
-    let a = c .before .before .before .before .before .before .before .before .before .args in
-    let same = sym (c .before .before .before .before .before .before .signals .ensures) ∙ c .before .before .before .before .if1 .left ∙ c .before .before .before .before .before .signals2 .ensures in
-    let one = c .before .before .before .nodes .ensures in
-    let two = c .before .before .nodes2 .ensures in
-    by-none (a .m1 .now) (a .m2 .now) (a .space) same (omega arith) (omega (arith, c .before .before .before .before .before .before .signals .ensures))
+    let counted = c .before .before in
+    let agreed = counted .before .before in
+    let a = start agreed .args in
+    let one = counted .before .nodes .ensures in
+    let two = counted .nodes2 .ensures in
+    by-none (a .m1 .now) (a .m2 .now) (a .space) (same agreed) (omega arith) (omega (arith, agreed .before .before .signals .ensures))
 
 pub last-refusal-spec : {M : Type 1} → statement M
 last-refusal-spec =

@@ -4,7 +4,7 @@ use Prim.Native.Nat.{ℕ, _+_, _-_, _≤_}
 use native.Mathlib.Omega.{arith}
 use mathlib.Core.List.{List}
 use lib.ListN.{length, getD}
-use Rattle.comparison.specs.Lines.{Entry, Downward, Holds}
+use Rattle.comparison.specs.Lines.{Entry, Downward, HoldsLines}
 use Rattle.comparison.specs.Needed.{AllStand, Closed, Copied}
 use Rattle.comparison.proofs.NeededLines.{copied-none, copied-skipped, copied-line}
 use borrow.Author.Needs.{needs}
@@ -14,7 +14,7 @@ use Rattle.comparison.proofs.needed.copy_needed.Tie as tie
 abbrev Inv-loop : tie.InvT-loop
 Inv-loop words j same needed out₀ number₀ count₀ i₀ out number count i =
     (i ≤ j) × (count ≤ i) × (length number ≡ 1024) × (length out ≡ 5632)
-    × ((a : ℕ) (ls : List Entry) → Downward a ls → Holds words ls → j ≤ length ls → AllStand ls (length ls) same → Closed ls same 0 j needed
+    × ((a : ℕ) (ls : List Entry) → Downward a ls → HoldsLines words ls → j ≤ length ls → AllStand ls (length ls) same → Closed ls same 0 j needed
     → Copied a ls same needed i number out count)
 
 abbrev μ-loop : tie.MeasureT-loop

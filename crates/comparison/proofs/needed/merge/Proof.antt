@@ -4,7 +4,7 @@ use Prim.Native.Nat.{ℕ, _+_, _-_, _≤_}
 use native.Mathlib.Omega.{arith}
 use mathlib.Core.List.{List, []}
 use lib.ListN.{length}
-use Rattle.comparison.specs.Lines.{Entry, Downward, Holds}
+use Rattle.comparison.specs.Lines.{Entry, Downward, HoldsLines}
 use Rattle.comparison.specs.Needed.{Merged}
 use Rattle.comparison.proofs.Lines.{padded}
 use Rattle.comparison.proofs.MergedLines.{merged-none}
@@ -14,7 +14,7 @@ use Rattle.comparison.proofs.needed.merge.Tie as tie
 
 abbrev Inv-loop : tie.InvT-loop
 Inv-loop words n same₀ other₀ nexts₀ top₀ i₀ same other nexts top i =
-    (i ≤ n) × (length same ≡ 1024) × (length other ≡ 1024) × (length nexts ≡ 1024) × ((a : ℕ) (ls : List Entry) → Downward a ls → Holds words ls → n ≤ length ls → Merged ls i same other nexts top)
+    (i ≤ n) × (length same ≡ 1024) × (length other ≡ 1024) × (length nexts ≡ 1024) × ((a : ℕ) (ls : List Entry) → Downward a ls → HoldsLines words ls → n ≤ length ls → Merged ls i same other nexts top)
 
 abbrev μ-loop : tie.MeasureT-loop
 μ-loop words n same₀ other₀ nexts₀ top₀ i₀ same other nexts top i = n - i

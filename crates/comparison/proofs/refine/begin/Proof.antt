@@ -9,8 +9,8 @@ use Rattle.comparison.proofs.refine.begin.Tie as tie
 signals-requires : tie.Need-signals-requires
 signals-requires c κs = search needs
 
-write-first-requires : tie.Need-write-first-requires
-write-first-requires c κs =
+write-first-lines-requires : tie.Need-write-first-lines-requires
+write-first-lines-requires c κs =
     let start = c .before .before .before .before in
     omega (arith, signals-sized (start .args .m1 .now) (start .pre .0), c .before .signals .ensures)
 
@@ -59,14 +59,14 @@ returns c =
     let pre = start .pre in
     begun (a .m1 .now) (a .m2 .now) (pre .0) (pre .1) (pre .2) (signals .signals .result) (nodes₁ .nodes .result) (nodes₂ .nodes2 .result)
     (signals .signals .ensures) (nodes₁ .nodes .ensures) (nodes₂ .nodes2 .ensures) (a .first .now) _ (a .second .now) _ (a .line .now) _ _ _ _ _
-    (pre .3) (pre .4) (pre .5) (first .store .ensures) (second .store2 .ensures) (row₁ .node-row .ensures) (row₂ .node-row2 .ensures) (lines .write-first .ensures)
+    (pre .3) (pre .4) (pre .5) (first .store .ensures) (second .store2 .ensures) (row₁ .node-row .ensures) (row₂ .node-row2 .ensures) (lines .write-first-lines .ensures)
 
 pub begin-spec : {M : Type 1} → statement M
 begin-spec =
     tie.close
     (tie.spec
     signals-requires
-    write-first-requires
+    write-first-lines-requires
     nodes-requires
     node-row-requires
     store-requires

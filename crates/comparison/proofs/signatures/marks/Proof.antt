@@ -6,13 +6,13 @@ use native.Mathlib.Omega.{arith}
 use lib.ListN.{length}
 use Rattle.truth.specs.Rows.{rowHas, rowsHas}
 use Rattle.truth.proofs.tables.TableLaws.{loaded}
-use Rattle.comparison.specs.Signatures.{Marked}
+use Rattle.comparison.specs.Signatures.{BlockMarks}
 use Rattle.comparison.proofs.Surveys.{marked-none, marked-more}
 use Rattle.comparison.proofs.signatures.marks.Statement.{statement}
 use Rattle.comparison.proofs.signatures.marks.Tie as tie
 
 abbrev Inv-loop : tie.InvT-loop
-Inv-loop rows n mark₀ c₀ mark c = (length mark ≡ 256) × (c ≤ n) × Marked (rowsHas rows) c mark
+Inv-loop rows n mark₀ c₀ mark c = (length mark ≡ 256) × (c ≤ n) × BlockMarks (rowsHas rows) c mark
 
 abbrev μ-loop : tie.MeasureT-loop
 μ-loop rows n mark₀ c₀ mark c = n - c

@@ -3,13 +3,13 @@ use borrow.Author.Needs.{needs}
 use Prim.Native.Nat.{_≤_, _-_}
 use native.Mathlib.Omega.{arith}
 use mathlib.Core.Path.{_≡_}
-use Rattle.comparison.specs.Lines.{signalLines, Holds}
+use Rattle.comparison.specs.Lines.{signalLines, HoldsLines}
 use Rattle.comparison.proofs.HeldLines.{holds-none, holds-signal}
 use Rattle.comparison.proofs.writing.write_signals.Statement.{statement}
 use Rattle.comparison.proofs.writing.write_signals.Tie as tie
 
 abbrev Inv-loop : tie.InvT-loop
-Inv-loop out₀ a i₀ out i = (i ≤ a) × Holds out (signalLines i)
+Inv-loop out₀ a i₀ out i = (i ≤ a) × HoldsLines out (signalLines i)
 
 abbrev μ-loop : tie.MeasureT-loop
 μ-loop out₀ a i₀ out i = a - i

@@ -2,7 +2,7 @@
 use borrow.Author.Needs.{needs}
 use native.Mathlib.Omega.{arith}
 use Rattle.sheets.specs.Machine.{machineRefusal, machineQuestions}
-use Rattle.sheets.proofs.Answers.{accepts, refuses}
+use Rattle.sheets.proofs.CheckAnswers.{accepts, refuses}
 use Rattle.sheets.proofs.checks.check_machine.Statement.{statement}
 use Rattle.sheets.proofs.checks.check_machine.Tie as tie
 

@@ -2,7 +2,7 @@
 use borrow.Author.Needs.{needs}
 use native.Mathlib.Omega.{arith}
 use Rattle.sheets.specs.Rules.{lent, ruleRefusal, recordQuestions, automataQuestions, ruleQuestions}
-use Rattle.sheets.proofs.Answers.{accepts, refuses}
+use Rattle.sheets.proofs.CheckAnswers.{accepts, refuses}
 use Rattle.sheets.proofs.checks.check_rules.Statement.{statement}
 use Rattle.sheets.proofs.checks.check_rules.Tie as tie
 

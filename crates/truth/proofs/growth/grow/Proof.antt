@@ -4,6 +4,7 @@ use mathlib.Core.Path.{_≡_, _∙_}
 use native.Mathlib.Omega.{arith}
 use mathlib.Core.Bool.{not}
 use lib.ListN.{length}
+use Rattle.truth.specs.Sizes.{setWords}
 use Rattle.truth.specs.Rows.{rowsHas}
 use Rattle.truth.specs.Growing.{left, Turns}
 use Rattle.truth.proofs.PairWeights.{weight-most}
@@ -25,7 +26,7 @@ grow-round-requires c κs =
     let a = c .before .before .before .before .before .args in
     let g = c .before .before .before .loop .inv in
     let most = weight-most (a .t) (λ p s. not (rowsHas (a .xs) p s)) (rowsHas (a .xs)) (omega arith) in
-    let long : length (a .xs) ≡ 32 = search needs in
+    let long : length (a .xs) ≡ setWords = search needs in
     (omega arith, omega (arith, g .fewer, most), g .ys-size ∙ long, g .new-size ∙ long, c .before .before .before .before .before .pre .2)
 
 same-length : tie.Need-same-length Inv-loop μ-loop

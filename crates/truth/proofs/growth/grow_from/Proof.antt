@@ -1,11 +1,12 @@
 -- `grow_from` meets its contract. The invariant: the pairs of the positions that are no longer left are added. The measure is how many are left.
 use mathlib.Core.Path.{_∙_}
 use mathlib.Core.Logic.{_↔_}
-use Prim.Native.Nat.{ℕ, _+_, _-_, _*_, _≤_}
+use Prim.Native.Nat.{ℕ, _-_, _≤_}
 use native.Mathlib.Omega.{arith}
 use lib.Dec.{T}
 use Rattle.sheets.proofs.Tests.{and-left}
 use Rattle.sheets.proofs.Counting.{number}
+use Rattle.truth.specs.Sizes.{membersMost, cell}
 use Rattle.truth.specs.Rows.{rowHas, rowsHas}
 use Rattle.truth.specs.Pairs.{Before, Cleared}
 use Rattle.truth.specs.Growing.{Spread, enters}
@@ -21,7 +22,7 @@ Inv-loop allow back into t p2 time ys₀ new₀ times₀ prev left₀ ys new tim
     ((u : ℕ) → T (rowHas left u) → T (rowHas left₀ u)) × Spread (among (rowHas left₀) (rowHas left) (enters allow p2 (rowHas prev))) time ys₀ new₀ times₀ ys new times
 
 abbrev μ-loop : tie.MeasureT-loop
-μ-loop allow back into t p2 time ys₀ new₀ times₀ prev left₀ ys new times left = number 128 (rowHas left)
+μ-loop allow back into t p2 time ys₀ new₀ times₀ prev left₀ ys new times left = number membersMost (rowHas left)
 
 cleared : (c : tie.After-store Inv-loop μ-loop) → Cleared (c .before .before .before .before .before .before .before .before .args .p2) (c .before .before .before .before .before .before .before .before .args .new .now) (c .store .last .0)
 cleared c =
@@ -75,7 +76,7 @@ returns c =
     let same =
     among-end (rowHas (from .result)) enter (rowHas (l .left)) (a .t) none
     (λ u t. pre .4 .few (a .p2) u (rw (from .ensures .0, from .ensures .1) at t))
-    (λ p s h x. rw (from .ensures .0, from .ensures .1) (pre .4 .all (a .p2) p s (pre .0) h (and-left (rowsHas (a .allow .now) (16 * p + a .p2) s) (rowHas (prev .result) s) x))) in
+    (λ p s h x. rw (from .ensures .0, from .ensures .1) (pre .4 .all (a .p2) p s (pre .0) h (and-left (rowsHas (a .allow .now) (cell p (a .p2)) s) (rowHas (prev .result) s) x))) in
     record {
       prev = rowHas (prev .result);
       before = before;

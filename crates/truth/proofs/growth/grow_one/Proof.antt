@@ -7,9 +7,9 @@ use mathlib.Core.List.{List}
 use lib.ListN.{length}
 use lib.Dec.{eqb}
 use Rattle.truth.specs.Rows.{rowHas, rowsHas}
-use Rattle.truth.specs.Growing.{Marked, Spread, enters}
+use Rattle.truth.specs.Growing.{TimePut, Spread, enters}
 use Rattle.truth.proofs.tables.TableLaws.{stored-length, stored-more}
-use Rattle.truth.proofs.growth.RowAdditions.{spread-one, spread-empty, unmarked}
+use Rattle.truth.proofs.growth.RowAdditions.{spread-one, spread-empty, no-time-put}
 use Rattle.truth.proofs.growth.grow_one.Statement.{statement}
 use Rattle.truth.proofs.growth.grow_one.Tie as tie
 
@@ -67,14 +67,14 @@ union-requires-2 c κs = omega arith
 store-requires-2 : tie.Need-store-requires-2
 store-requires-2 c κs = c .before .before .before .before .before .before .before .before .before .before .before .before .before .before .before .pre .0
 
-mark-requires : tie.Need-mark-requires
-mark-requires c κs = (c .before .before .before .before .before .before .before .before .before .before .before .before .before .before .before .before .before .before .pre .0, omega (arith, c .before .if2 .left))
+put-time-requires : tie.Need-put-time-requires
+put-time-requires c κs = (c .before .before .before .before .before .before .before .before .before .before .before .before .before .before .before .before .before .before .pre .0, omega (arith, c .before .if2 .left))
 
 -- what is added, and what the times are then
-added : (c : tie.After-store2) (times : List ℕ) → Marked (rowHas (c .before .before .before .before .before .before .before .before .before .before .difference .result)) (c .before .before .before .before .before .before .before .before .before .before .before .before .before .before .before .before .args .p) (c .before .before .before .before .before .before .before .before .before .before .before .before .before .before .before .before .args .time) (c .before .before .before .before .before .before .before .before .before .before .before .before .before .before .before .before .args .times .now) times
+added : (c : tie.After-store2) (times : List ℕ) → TimePut (rowHas (c .before .before .before .before .before .before .before .before .before .before .difference .result)) (c .before .before .before .before .before .before .before .before .before .before .before .before .before .before .before .before .args .p) (c .before .before .before .before .before .before .before .before .before .before .before .before .before .before .before .before .args .time) (c .before .before .before .before .before .before .before .before .before .before .before .before .before .before .before .before .args .times .now) times
     → Spread (λ q s. eqb q (c .before .before .before .before .before .before .before .before .before .before .before .before .before .before .before .before .args .p) && enters (c .before .before .before .before .before .before .before .before .before .before .before .before .before .before .before .before .args .allow .now) (c .before .before .before .before .before .before .before .before .before .before .before .before .before .before .before .before .args .p2) (rowHas (c .before .before .before .before .before .before .before .before .before .before .before .before .before .before .before .before .args .prev)) (c .before .before .before .before .before .before .before .before .before .before .before .before .before .before .before .before .args .p) s) (c .before .before .before .before .before .before .before .before .before .before .before .before .before .before .before .before .args .time)
     (c .before .before .before .before .before .before .before .before .before .before .before .before .before .before .before .before .args .ys .now) (c .before .before .before .before .before .before .before .before .before .before .before .before .before .before .before .before .args .new .now) (c .before .before .before .before .before .before .before .before .before .before .before .before .before .before .before .before .args .times .now) (c .before .before .before .before .before .store .last .0) (c .store2 .last .0) times
-added c times marked =
+added c times put =
     let d = c .before .before .before .before .before .before .before .before .before .before in
     let a = c .before .before .before .before .before .before .before .before .before .before .before .before .before .before .before .before .args in
     let here = c .before .before .before .before .before .before .before .before .before .before .before .before .before .load .ensures in
@@ -88,16 +88,16 @@ added c times marked =
     (rw f (stored-length (a .new .now) (a .p) _ _ long′))
     (rw e (stored-more (a .ys .now) (a .p) _ _ long (rowHas (d .difference .result)) (λ s. rw (here .0, here .1) at (c .before .before .before .before .before .before .union .ensures s))))
     (rw f (stored-more (a .new .now) (a .p) _ _ long′ (rowHas (d .difference .result)) (λ s. rw (new .0, new .1) at (c .before .union2 .ensures s))))
-    marked
+    put
 
 returns-2 : tie.Need-returns-2
-returns-2 c = added (c .before) _ (unmarked (λ room. omega (arith, c .if2 .taken, room)))
+returns-2 c = added (c .before) _ (no-time-put (λ room. omega (arith, c .if2 .taken, room)))
 
 same-length : tie.Need-same-length
-same-length c = c .before .before .mark .ensures .size
+same-length c = c .before .before .put-time .ensures .size
 
 returns-3 : tie.Need-returns-3
-returns-3 c = added (c .before .before .before .before .before) _ (c .before .before .mark .ensures)
+returns-3 c = added (c .before .before .before .before .before) _ (c .before .before .put-time .ensures)
 
 pub grow-one-spec : {M : Type 1} → statement M
 grow-one-spec =
@@ -117,6 +117,6 @@ grow-one-spec =
     union-requires-2
     store-requires-2
     returns-2
-    mark-requires
+    put-time-requires
     same-length
     returns-3)

@@ -6,6 +6,7 @@ use Prim.Native.Nat.{_-_, _≤_}
 use mathlib.Core.Bool.{not}
 use Rattle.sheets.specs.Words.{each}
 use native.Mathlib.Omega.{arith}
+use Rattle.truth.specs.Sizes.{membersMost}
 use Rattle.truth.specs.Rows.{rowsHas}
 use Rattle.truth.specs.Pairs.{NoRow, NoRows}
 use Rattle.truth.specs.Growing.{Turns}
@@ -24,7 +25,7 @@ abbrev at-loop : tie.After-is-empty Inv-loop μ-loop → tie.At-loop Inv-loop μ
 at-loop c = c .before .before .before .before
 
 -- whether row k of the new pairs is empty
-tested : (c : tie.After-is-empty Inv-loop μ-loop) → each 128 (λ s. not (rowsHas (at-loop c .loop .new) (at-loop c .loop .k) s)) ≡ c .is-empty .result
+tested : (c : tie.After-is-empty Inv-loop μ-loop) → each membersMost (λ s. not (rowsHas (at-loop c .loop .new) (at-loop c .loop .k) s)) ≡ c .is-empty .result
 tested c = let row = c .before .load .ensures in rw (row .0, row .1) at (sym (c .is-empty .ensures))
 
 loop-holds : tie.Need-loop-holds Inv-loop μ-loop

@@ -1,84 +1,71 @@
--- `path_refusal` meets its contract, by the parts of the table: the machine, the rule, the signals, the line and the room.
-use mathlib.Core.Path.{sym, _∙_}
-use borrow.Author.Tests.{not-true, not-false}
+-- `path_refusal` meets its contract, by the parts of the table: the sheets, then the line and the room.
+use mathlib.Core.Path.{sym}
+use Prim.Native.Nat.{ℕ}
+use lib.ListN.{drop}
+use Rattle.sheets.specs.Sheets.{sheetQuestions}
+use Rattle.sheets.proofs.Questions.{Finds, none, found, went-on, returned, part-returned, part-went-on}
+use Rattle.sheets.proofs.SheetTable.{sheets-numbered}
 use Rattle.truth.specs.Path.{pathQuestions}
-use Rattle.truth.proofs.labelling.LabelTable.{by-machine, by-rules, by-signals, by-last}
-use Rattle.truth.proofs.path.PathTable.{ownQuestions, own-line, own-room, own-none}
+use Rattle.truth.proofs.path.PathTable.{ownQuestions}
 use borrow.Author.Needs.{needs}
 use Rattle.truth.proofs.path.path_refusal.Statement.{statement}
 use Rattle.truth.proofs.path.path_refusal.Tie as tie
 
-machine-refusal-requires : tie.Need-machine-refusal-requires
-machine-refusal-requires c κs = search needs
+abbrev start : tie.Else1 → tie.Start
+start c = c .before .before .before .before
+
+-- where both sheets are accepted, the call's own questions decide
+after-sheets : (c : tie.Else1) {n : ℕ} → let a = start c .args in Finds (ownQuestions (a .m .now) (a .r .now) (a .line) (a .node) (a .room)) n
+    → Finds (pathQuestions (a .m .now) (a .r .now) (a .line) (a .node) (a .room)) n
+unfolding pathQuestions
+after-sheets c f =
+    let a = start c .args in
+    part-went-on (sheetQuestions (a .m .now) (a .r .now)) (ownQuestions (a .m .now) (a .r .now) (a .line) (a .node) (a .room)) _ (c .before .sheets-refusal .ensures) (sheets-numbered (a .m .now) (a .r .now)) (c .if1 .left) f
+
+sheets-refusal-requires : tie.Need-sheets-refusal-requires
+sheets-refusal-requires c κs = search needs
 
 returns : tie.Need-returns
 unfolding pathQuestions
 returns c =
     let a = c .before .before .before .before .args in
-    by-machine (a .m .now) (a .r .now) (ownQuestions (a .m .now) (a .r .now) (a .line) (a .node) (a .room)) _ (c .before .machine-refusal .ensures) (c .if1 .taken)
-
-rule-refusal-requires : tie.Need-rule-refusal-requires
-rule-refusal-requires c κs = search needs
-
-returns-2 : tie.Need-returns-2
-unfolding pathQuestions
-returns-2 c =
-    let a = c .before .before .before .before .before .before .args in
-    by-rules (a .m .now) (a .r .now) (ownQuestions (a .m .now) (a .r .now) (a .line) (a .node) (a .room)) _ (c .before .before .before .machine-refusal .ensures) (c .before .before .if1 .left) _ (c .before .rule-refusal .ensures) (c .if2 .taken)
-
-signals-requires : tie.Need-signals-requires
-signals-requires c κs = search needs
-
-over-signals-requires : tie.Need-over-signals-requires
-over-signals-requires c κs = search needs
-
-returns-3 : tie.Need-returns-3
-unfolding pathQuestions
-returns-3 c =
-    let a = c .before .before .before .before .before .before .before .before .before .args in
-    let rules = c .before .before .before .before in
-    by-signals (a .m .now) (a .r .now) (ownQuestions (a .m .now) (a .r .now) (a .line) (a .node) (a .room)) _ (rules .before .before .machine-refusal .ensures) (rules .before .if1 .left) _ (rules .rule-refusal .ensures) (c .before .before .before .if2 .left) (rw (c .before .before .signals .ensures) at (sym (c .before .over-signals .ensures)) ∙ not-true _ (c .if3 .taken))
+    sym (found (pathQuestions (a .m .now) (a .r .now) (a .line) (a .node) (a .room))
+    (part-returned (sheetQuestions (a .m .now) (a .r .now)) (ownQuestions (a .m .now) (a .r .now) (a .line) (a .node) (a .room)) _ (c .before .sheets-refusal .ensures) (c .if1 .taken)))
 
 q18-requires : tie.Need-q18-requires
 q18-requires c κs = search needs
 
-returns-4 : tie.Need-returns-4
-unfolding pathQuestions
-returns-4 c =
-    let a = c .before .before .before .before .before .before .before .before .before .before .before .args in
-    let rules = c .before .before .before .before .before .before in
-    by-last (a .m .now) (a .r .now) (ownQuestions (a .m .now) (a .r .now) (a .line) (a .node) (a .room)) _ (rules .before .before .machine-refusal .ensures) (rules .before .if1 .left) _ (rules .rule-refusal .ensures) (c .before .before .before .before .before .if2 .left) (rw (c .before .before .before .before .signals .ensures) at (sym (c .before .before .before .over-signals .ensures)) ∙ not-false _ (c .before .before .if3 .left)) _ (own-line (a .m .now) (a .r .now) (a .line) (a .node) (a .room) _ (c .before .q18 .ensures) (c .if4 .taken))
+returns-2 : tie.Need-returns-2
+returns-2 c =
+    let a = start (c .before .before) .args in
+    sym (found (pathQuestions (a .m .now) (a .r .now) (a .line) (a .node) (a .room))
+    (after-sheets (c .before .before) (returned _ (c .before .q18 .ensures) (c .if2 .taken))))
 
 q19-requires : tie.Need-q19-requires
 q19-requires c κs = search needs
 
-returns-5 : tie.Need-returns-5
-unfolding pathQuestions
-returns-5 c =
-    let a = c .before .before .before .before .before .before .before .before .before .before .before .before .before .args in
-    let rules = c .before .before .before .before .before .before .before .before in
-    by-last (a .m .now) (a .r .now) (ownQuestions (a .m .now) (a .r .now) (a .line) (a .node) (a .room)) _ (rules .before .before .machine-refusal .ensures) (rules .before .if1 .left) _ (rules .rule-refusal .ensures) (c .before .before .before .before .before .before .before .if2 .left) (rw (c .before .before .before .before .before .before .signals .ensures) at (sym (c .before .before .before .before .before .over-signals .ensures)) ∙ not-false _ (c .before .before .before .before .if3 .left)) _ (own-room (a .m .now) (a .r .now) (a .line) (a .node) (a .room) _ (c .before .before .before .q18 .ensures) (c .before .before .if4 .left) _ (c .before .q19 .ensures) (c .if5 .taken))
+returns-3 : tie.Need-returns-3
+returns-3 c =
+    let passed = c .before .before in
+    let a = start (passed .before .before) .args in
+    sym (found (pathQuestions (a .m .now) (a .r .now) (a .line) (a .node) (a .room))
+    (after-sheets (passed .before .before) (went-on _ (passed .before .q18 .ensures) (passed .if2 .left) (returned _ (c .before .q19 .ensures) (c .if3 .taken)))))
 
-returns-6 : tie.Need-returns-6
-unfolding pathQuestions
-returns-6 c =
-    let a = c .before .before .before .before .before .before .before .before .before .before .before .before .before .args in
-    let rules = c .before .before .before .before .before .before .before .before in
-    by-last (a .m .now) (a .r .now) (ownQuestions (a .m .now) (a .r .now) (a .line) (a .node) (a .room)) _ (rules .before .before .machine-refusal .ensures) (rules .before .if1 .left) _ (rules .rule-refusal .ensures) (c .before .before .before .before .before .before .before .if2 .left) (rw (c .before .before .before .before .before .before .signals .ensures) at (sym (c .before .before .before .before .before .over-signals .ensures)) ∙ not-false _ (c .before .before .before .before .if3 .left)) _ (own-none (a .m .now) (a .r .now) (a .line) (a .node) (a .room) _ (c .before .before .before .q18 .ensures) (c .before .before .if4 .left) _ (c .before .q19 .ensures) (c .if5 .left))
+returns-4 : tie.Need-returns-4
+returns-4 c =
+    let passed = c .before .before in
+    let a = start (passed .before .before) .args in
+    sym (found (pathQuestions (a .m .now) (a .r .now) (a .line) (a .node) (a .room))
+    (after-sheets (passed .before .before) (went-on _ (passed .before .q18 .ensures) (passed .if2 .left) (went-on _ (c .before .q19 .ensures) (c .if3 .left) none))))
 
 pub path-refusal-spec : {M : Type 1} → statement M
 path-refusal-spec =
     tie.close
     (tie.spec
-    machine-refusal-requires
+    sheets-refusal-requires
     returns
-    rule-refusal-requires
-    returns-2
-    signals-requires
-    over-signals-requires
-    returns-3
     q18-requires
-    returns-4
+    returns-2
     q19-requires
-    returns-5
-    returns-6)
+    returns-3
+    returns-4)

@@ -1,12 +1,12 @@
--- `show` meets its contract: the solved line's row says whether there is a path; where there is, the solved tables can be walked, and the
--- walk, its positions named, is the list.
+-- `show` meets its contract: the solved line's row says whether there is a path; where there is, the solved tables can be traced, and the
+-- trail, its positions named, is the list.
 use borrow.Author.Needs.{needs}
 use mathlib.Core.Path.{_≡_}
 use native.Mathlib.Omega.{arith}
 use lib.ListN.{length}
 use Rattle.truth.specs.Pairs.{Timed}
 use Rattle.truth.proofs.lines.PathRows.{states-few}
-use Rattle.truth.proofs.path.ShownLines.{none-shown, walkable, list-fits, shows-line}
+use Rattle.truth.proofs.path.ShownLines.{none-shown, traceable, list-fits, shows-line}
 use Rattle.truth.proofs.path.show.Statement.{statement}
 use Rattle.truth.proofs.path.show.Tie as tie
 
@@ -38,17 +38,17 @@ chain-length-requires c κs = search needs
 nodes-requires : tie.Need-nodes-requires
 nodes-requires c κs = search needs
 
-cast-walk : tie.Need-cast-walk
-cast-walk c = search needs
+cast-trace : tie.Need-cast-trace
+cast-trace c = search needs
 
-walk-requires : tie.Need-walk-requires
-walk-requires c κs =
+trace-requires : tie.Need-trace-requires
+trace-requires c κs =
     let counted = c .before .before .before .before .before in
     let has = counted .before .before .before in
     let solved = has .before .before .before in
     let start = solved .before .before .before .before .before in
     let a = start .args in
-    walkable (a .m .now) (a .r .now) (a .next .now) (a .back .now) (a .rows .now) (a .j) (a .x) (start .pre .0) (a .exchanged) _ _ _ _ (solved .before .solve .ensures)
+    traceable (a .m .now) (a .r .now) (a .next .now) (a .back .now) (a .rows .now) (a .j) (a .x) (start .pre .0) (a .exchanged) _ _ _ _ (solved .before .solve .ensures)
     (a .s) (start .pre .1 .0) (start .pre .1 .1) _ _ (has .before .load .ensures .0) (has .before .load .ensures .1) _ (has .has .ensures) (counted .before .before .if1 .left) _ _
     (counted .before .chain-length .ensures) (counted .nodes .ensures) (timed (solved .before))
 
@@ -70,10 +70,10 @@ named-requires c κs =
     let solved = has .before .before .before in
     let start = solved .before .before .before .before .before in
     let a = start .args in
-    let walk = c .before .before .walk in
+    let trail = c .before .before .trace in
     list-fits (a .m .now) (a .r .now) (a .next .now) (a .back .now) (a .rows .now) (a .j) (a .x) (start .pre .0) (a .exchanged) _ _ _ _ (solved .before .solve .ensures)
     (a .s) (start .pre .1 .0) (start .pre .1 .1) _ _ (has .before .load .ensures .0) (has .before .load .ensures .1) _ (has .has .ensures) (counted .before .before .if1 .left) _ _
-    (counted .before .chain-length .ensures) (counted .nodes .ensures) (walk .result .nodes) (walk .result .positions) _ _ (walk .ensures)
+    (counted .before .chain-length .ensures) (counted .nodes .ensures) (trail .result .nodes) (trail .result .positions) _ _ (trail .ensures)
 
 returns-2 : tie.Need-returns-2
 returns-2 c =
@@ -82,12 +82,12 @@ returns-2 c =
     let solved = has .before .before .before in
     let start = solved .before .before .before .before .before in
     let a = start .args in
-    let walk = c .before .before .before .before .walk in
+    let trail = c .before .before .before .before .trace in
     let chain = c .before .before .chain-states in
     let named = c .before .named in
     shows-line (a .m .now) (a .r .now) (a .next .now) (a .back .now) (a .rows .now) (a .j) (a .x) (start .pre .0) (a .exchanged) _ _ _ _ (solved .before .solve .ensures)
     (a .s) (start .pre .1 .0) (start .pre .1 .1) _ _ (has .before .load .ensures .0) (has .before .load .ensures .1) _ (has .has .ensures) (counted .before .before .if1 .left) _ _
-    (counted .before .chain-length .ensures) (counted .nodes .ensures) (walk .result .nodes) (walk .result .positions) _ _ (walk .ensures)
+    (counted .before .chain-length .ensures) (counted .nodes .ensures) (trail .result .nodes) (trail .result .positions) _ _ (trail .ensures)
     (chain .result) (named .result) (chain .ensures) (named .ensures)
 
 pub show-spec : {M : Type 1} → statement M
@@ -100,8 +100,8 @@ show-spec =
     returns
     chain-length-requires
     nodes-requires
-    cast-walk
-    walk-requires
+    cast-trace
+    trace-requires
     chain-states-requires
     named-requires
     returns-2)

@@ -2,6 +2,7 @@
 use mathlib.Core.Path.{_∙_}
 use native.Mathlib.Omega.{arith}
 use Rattle.sheets.proofs.Counting.{number}
+use Rattle.truth.specs.Sizes.{membersMost}
 use Rattle.truth.specs.Rows.{rowHas}
 use Rattle.truth.proofs.rows.RowWalks.{none-left, one-left, one-within, less-falls}
 use Rattle.truth.proofs.structure.EdgesAdded.{Adding, adding-none, adding-next, adding-end}
@@ -12,7 +13,7 @@ abbrev Inv-loop : tie.InvT-loop
 Inv-loop s out₀ left₀ out left = Adding (rowHas left₀) (rowHas left) s out₀ out
 
 abbrev μ-loop : tie.MeasureT-loop
-μ-loop s out₀ left₀ out left = number 128 (rowHas left)
+μ-loop s out₀ left₀ out left = number membersMost (rowHas left)
 
 loop-holds : tie.Need-loop-holds Inv-loop μ-loop
 loop-holds c = adding-none _ _ _

@@ -5,14 +5,15 @@ use mathlib.Core.Logic.{_≢_}
 use Prim.Native.Nat.{ℕ, _<_}
 use mathlib.Core.Bool.{_&&_, _||_}
 use Rattle.sheets.specs.Words.{within}
+use Rattle.truth.specs.Sizes.{membersMost}
 use Rattle.truth.specs.Rows.{rowHas}
-use Rattle.truth.specs.Targets.{chainLeads}
+use Rattle.truth.specs.Targets.{linksEnd, chainLeads}
 use Rattle.truth.proofs.structure.TargetRows.{tail-used, chain-until}
 use Rattle.truth.proofs.structure.chain_row.Statement.{statement}
 use Rattle.truth.proofs.structure.chain_row.Tie as tie
 
 -- what the walk gathers
-gathered : (c : tie.After-targets-along) (t : ℕ) → let start = c .before .before .before .before .before .before .before .before in let r = c .targets-along .result in let whole = within 1 128 t && chainLeads (start .args .m .now) (start .args .x) t in
+gathered : (c : tie.After-targets-along) (t : ℕ) → let start = c .before .before .before .before .before .before .before .before in let r = c .targets-along .result in let whole = within 1 membersMost t && chainLeads (start .args .m .now) (start .args .x) t in
     (r .link ≡ r .stop → (rowHas (r .row) t || rowHas (c .before .before .tail-for .result .row) t) ≡ whole) × (r .link ≢ r .stop → rowHas (r .row) t ≡ whole)
 gathered c =
     let start = c .before .before .before .before .before .before .before .before in
@@ -20,7 +21,7 @@ gathered c =
     let used = c .before .before .tail-for in
     let none = c .before .no-targets in
     let edges = c .before .before .before .edges in
-    let small : edges .result < 65536 = search needs in
+    let small : edges .result < linksEnd = search needs in
     let of = tail-used (a .m .now) (a .tail) (used .result) (a .x) (edges .result) (start .pre) (used .ensures) in
     chain-until (a .m .now) (used .result) (of .0) _ (edges .result) (a .x) (none .result) (c .targets-along .result) (c .before .before .before .before .edges-from .ensures) (edges .ensures) small (of .1)
     (none .ensures .0) (none .ensures .1 .0) (none .ensures .1 .1) (c .targets-along .ensures)
@@ -28,7 +29,7 @@ gathered c =
 returns : tie.Need-returns
 returns c t =
     let start = c .before .before .before .before in
-    subst (λ y. rowHas (start .args .tail .row) t ≡ (within 1 128 t && chainLeads (start .args .m .now) y t)) (sym (c .before .if1 .taken)) (start .pre .leads t)
+    subst (λ y. rowHas (start .args .tail .row) t ≡ (within 1 membersMost t && chainLeads (start .args .m .now) y t)) (sym (c .before .if1 .taken)) (start .pre .leads t)
 
 edges-from-requires : tie.Need-edges-from-requires
 edges-from-requires c κs = search needs

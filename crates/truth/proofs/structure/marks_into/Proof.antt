@@ -3,6 +3,7 @@ use borrow.Author.Needs.{needs}
 use mathlib.Core.Path.{sym, _∙_}
 use native.Mathlib.Omega.{arith}
 use Rattle.sheets.proofs.Counting.{number}
+use Rattle.truth.specs.Sizes.{membersMost}
 use Rattle.truth.specs.Rows.{rowHas}
 use Rattle.truth.proofs.rows.RowLaws.{held-in, none-passes}
 use Rattle.truth.proofs.rows.RowWalks.{none-left, one-left, one-within, less-falls}
@@ -14,7 +15,7 @@ abbrev Inv-loop : tie.InvT-loop
 Inv-loop m mark all s out₀ left₀ out left = Noted mark (rowHas left₀) (rowHas left) (rowHas out)
 
 abbrev μ-loop : tie.MeasureT-loop
-μ-loop m mark all s out₀ left₀ out left = number 128 (rowHas left)
+μ-loop m mark all s out₀ left₀ out left = number membersMost (rowHas left)
 
 empty-requires : tie.Need-empty-requires Inv-loop μ-loop
 empty-requires c κs = search needs

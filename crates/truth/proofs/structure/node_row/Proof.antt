@@ -4,6 +4,7 @@ use mathlib.Core.Bool.{true, and-true}
 use native.Mathlib.Omega.{arith}
 use Prim.Native.Nat.{ℕ, _-_, _≤_}
 use Rattle.sheets.specs.Words.{within}
+use Rattle.truth.specs.Sizes.{membersMost}
 use Rattle.truth.specs.Rows.{rowHas}
 use Rattle.truth.proofs.structure.NodeLoops.{sofar, sofar-none, sofar-yes}
 use Rattle.truth.proofs.structure.node_row.Statement.{statement}
@@ -36,7 +37,7 @@ loop-again c = (omega arith, λ i. c .with .ensures i ∙ sofar-yes (λ k. true)
 returns : tie.Need-returns Inv-loop μ-loop
 returns c i =
     let e : c .before .loop .s ≡ c .before .before .before .args .n = omega arith in
-    rw (← and-true (within 1 128 i), ← e) (c .before .loop .inv .1 i)
+    rw (← and-true (within 1 membersMost i), ← e) (c .before .loop .inv .1 i)
 
 pub node-row-spec : {M : Type 1} → statement M
 node-row-spec =

@@ -3,13 +3,14 @@ use mathlib.Core.Path.{_≡_, refl, _∙_}
 use Prim.Native.Nat.{ℕ, _-_, _≤_}
 use native.Mathlib.Omega.{arith}
 use lib.ListN.{length}
+use Rattle.truth.specs.Sizes.{tableWords}
 use Rattle.truth.specs.Rows.{rowHas, rowsHas}
 use Rattle.truth.proofs.structure.EdgesAdded.{Earlier, earlier-none, earlier-next}
 use Rattle.truth.proofs.structure.predecessors.Statement.{statement}
 use Rattle.truth.proofs.structure.predecessors.Tie as tie
 
 abbrev Inv-loop : tie.InvT-loop
-Inv-loop next n out₀ s₀ out s = (s ≤ n) × (length out ≡ 512) × Earlier next s out
+Inv-loop next n out₀ s₀ out s = (s ≤ n) × (length out ≡ tableWords) × Earlier next s out
 
 abbrev μ-loop : tie.MeasureT-loop
 μ-loop next n out₀ s₀ out s = n - s

@@ -1,5 +1,6 @@
 -- `successors` meets its contract. The invariant: the first s rows have the successors of the nodes 1 to s. The measure is the nodes left.
 use borrow.Author.Needs.{needs}
+use Rattle.truth.specs.Sizes.{membersMost, tableRows, tableWords}
 use Rattle.truth.proofs.structure.TargetRows.{no-tail-of}
 use borrow.Author.Tests.{ltb-false}
 use mathlib.Core.Bool.{Bool, _&&_}
@@ -15,10 +16,10 @@ use Rattle.truth.proofs.structure.successors.Tie as tie
 
 -- whether node i + 1 has an edge to t
 abbrev Next : List ℕ → ℕ → ℕ → Bool → Type 0
-Next m i t b = b ≡ (within 1 128 t && kripke m .edge (i + 1) t)
+Next m i t b = b ≡ (within 1 membersMost t && kripke m .edge (i + 1) t)
 
 abbrev Inv-loop : tie.InvT-loop
-Inv-loop m n out₀ s₀ out s = Filled 512 (Next m) s out
+Inv-loop m n out₀ s₀ out s = Filled tableWords (Next m) s out
 
 abbrev μ-loop : tie.MeasureT-loop
 μ-loop m n out₀ s₀ out s = n - s
@@ -54,7 +55,7 @@ loop-again : tie.Need-loop-again Inv-loop μ-loop
 loop-again c =
     let a = c .before .before .before .before .before .before .before .before .before .args in
     let at = c .before .before .before .before .before .before .loop in
-    let few : at .s < 256 = search needs in
+    let few : at .s < tableRows = search needs in
     filled-more (Next (a .m .now)) (at .out) _ (at .s) _ _ (at .inv) (omega arith) (c .store .ensures) (c .before .before .successor-row .ensures)
 
 returns : tie.Need-returns Inv-loop μ-loop

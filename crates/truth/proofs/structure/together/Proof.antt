@@ -1,6 +1,7 @@
 -- `together` meets its contract. The invariant: the rows of the members that are no longer left are gathered. The measure is how many are left.
 use native.Mathlib.Omega.{arith}
 use Rattle.sheets.proofs.Counting.{number}
+use Rattle.truth.specs.Sizes.{membersMost}
 use Rattle.truth.specs.Rows.{rowHas}
 use Rattle.truth.proofs.rows.RowWalks.{none-left, one-left, one-within, less-falls, Gathered, gathered-none, gathered-next, gathered-end}
 use Rattle.truth.proofs.structure.together.Statement.{statement}
@@ -10,7 +11,7 @@ abbrev Inv-loop : tie.InvT-loop
 Inv-loop table out₀ left₀ out left = Gathered table (rowHas left₀) (rowHas left) (rowHas out)
 
 abbrev μ-loop : tie.MeasureT-loop
-μ-loop table out₀ left₀ out left = number 128 (rowHas left)
+μ-loop table out₀ left₀ out left = number membersMost (rowHas left)
 
 empty-requires : tie.Need-empty-requires Inv-loop μ-loop
 empty-requires c κs = omega arith

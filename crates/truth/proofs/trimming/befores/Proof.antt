@@ -5,6 +5,7 @@ use mathlib.Core.Logic.{_↔_}
 use Prim.Native.Nat.{ℕ, _≤_, _-_}
 use native.Mathlib.Omega.{arith}
 use lib.Dec.{T}
+use Rattle.truth.specs.Sizes.{setWords}
 use Rattle.truth.specs.Rows.{rowHas, rowsHas}
 use Rattle.truth.specs.Pairs.{Before}
 use Rattle.truth.proofs.rows.RowLaws.{held-in}
@@ -13,7 +14,7 @@ use Rattle.truth.proofs.trimming.befores.Statement.{statement}
 use Rattle.truth.proofs.trimming.befores.Tie as tie
 
 abbrev Inv-loop : tie.InvT-loop
-Inv-loop back t xs out₀ k₀ out k = (k ≤ t) × Filled 32 (λ j s b. T b ↔ Before back (rowsHas xs j) s) k out
+Inv-loop back t xs out₀ k₀ out k = (k ≤ t) × Filled setWords (λ j s b. T b ↔ Before back (rowsHas xs j) s) k out
 
 abbrev μ-loop : tie.MeasureT-loop
 μ-loop back t xs out₀ k₀ out k = t - k

@@ -2,6 +2,7 @@
 use Prim.Native.Nat.{_-_, _≤_}
 use native.Mathlib.Omega.{arith}
 use Rattle.sheets.proofs.Counting.{number}
+use Rattle.truth.specs.Sizes.{positionsMost, membersMost}
 use Rattle.truth.specs.Rows.{rowHas}
 use Rattle.truth.proofs.rows.RowWalks.{none-left, one-left, one-within, less-falls}
 use Rattle.truth.proofs.trimming.TrimSteps.{Passing, passing-none, passing-next, passing-end}
@@ -12,10 +13,10 @@ abbrev Inv-loop : tie.InvT-loop
 Inv-loop allow table p out₀ left₀ out left = Passing allow table p (rowHas left₀) (rowHas left) (rowHas out)
 
 abbrev μ-loop : tie.MeasureT-loop
-μ-loop allow table p out₀ left₀ out left = number 128 (rowHas left)
+μ-loop allow table p out₀ left₀ out left = number membersMost (rowHas left)
 
 -- the member that is found
-few : (c : tie.Else1 Inv-loop μ-loop) → (1 ≤ c .before .first .result) × (c .before .first .result ≤ 16)
+few : (c : tie.Else1 Inv-loop μ-loop) → (1 ≤ c .before .first .result) × (c .before .first .result ≤ positionsMost)
 few c =
     let f = c .before .first .ensures in
     let n = c .if1 .left in

@@ -1,6 +1,7 @@
 -- `steps_on` meets its contract: a step to p2, or one to any position.
-use Prim.Native.Nat.{_+_, _*_}
+use Prim.Native.Nat.{}
 use native.Mathlib.Omega.{arith}
+use Rattle.truth.specs.Sizes.{cell}
 use Rattle.truth.proofs.tables.LinkedSets.{among-below, below-among}
 use Rattle.truth.proofs.trimming.TrimSteps.{Meeting, meeting-onward, onward-meeting, meets-onward}
 use Rattle.truth.proofs.trimming.steps_on.Statement.{statement}
@@ -44,8 +45,8 @@ returns-2 c =
     let on = c .before .load3 .ensures in
     let is = rw (on .0, on .1) at (c .steps-into .ensures) in
     let meeting = Meeting (a .allow .now) (a .xs .now) _ _ (a .p) (a .s) in (
-      λ y. meeting-onward (a .allow .now) (a .next .now) (a .xs .now) (a .t) (a .p) (a .s) _ _ (to .0) (to .1) (among-below (λ p q. 16 * p + q) (pre .6) (a .p) meeting (is .0 y)),
-      λ o. is .1 (below-among (λ p q. 16 * p + q) (pre .6) (a .p) meeting (pre .0) (λ q m. (a .s, m .0)) (onward-meeting (a .allow .now) (a .next .now) (a .xs .now) (a .t) (a .p) (a .s) _ _ (to .0) (to .1) o)),
+      λ y. meeting-onward (a .allow .now) (a .next .now) (a .xs .now) (a .t) (a .p) (a .s) _ _ (to .0) (to .1) (among-below cell (pre .6) (a .p) meeting (is .0 y)),
+      λ o. is .1 (below-among cell (pre .6) (a .p) meeting (pre .0) (λ q m. (a .s, m .0)) (onward-meeting (a .allow .now) (a .next .now) (a .xs .now) (a .t) (a .p) (a .s) _ _ (to .0) (to .1) o)),
     )
 
 pub steps-on-spec : {M : Type 1} → statement M

@@ -4,6 +4,7 @@ use mathlib.Core.Path.{_≡_}
 use mathlib.Core.Bool.{true, false}
 use native.Mathlib.Omega.{arith}
 use Rattle.sheets.proofs.Counting.{number}
+use Rattle.truth.specs.Sizes.{membersMost}
 use Rattle.truth.specs.Rows.{rowHas, rowsHas}
 use Rattle.truth.specs.Pairs.{Onward}
 use Rattle.truth.proofs.rows.RowWalks.{none-left, one-left, one-within, less-falls, Sorted, sorted-none, sorted-yes, sorted-no}
@@ -15,7 +16,7 @@ abbrev Inv-loop : tie.InvT-loop
 Inv-loop allow next onto t p p2 xs out₀ left₀ out left = Sorted (Onward allow next t (rowsHas xs) p) (rowHas left₀) (rowHas left) (rowHas out)
 
 abbrev μ-loop : tie.MeasureT-loop
-μ-loop allow next onto t p p2 xs out₀ left₀ out left = number 128 (rowHas left)
+μ-loop allow next onto t p p2 xs out₀ left₀ out left = number membersMost (rowHas left)
 
 empty-requires : tie.Need-empty-requires Inv-loop μ-loop
 empty-requires c κs = omega arith

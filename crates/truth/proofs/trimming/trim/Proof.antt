@@ -4,6 +4,7 @@ use borrow.Author.Tests.{not-true, not-false}
 use mathlib.Core.Path.{_≡_, refl, _∙_}
 use mathlib.Core.Bool.{Bool, true, false}
 use lib.ListN.{length}
+use Rattle.truth.specs.Sizes.{setWords}
 use Rattle.truth.specs.Rows.{rowsHas}
 use Rattle.truth.specs.Pairs.{weight}
 use Rattle.truth.specs.Trimmed.{Trimmed}
@@ -20,7 +21,7 @@ abbrev μ-loop : tie.MeasureT-loop
 μ-loop allow next back into onto t rows₀ gone₀ rows gone = weight t (rowsHas rows) (rowsHas gone)
 
 trim-first-requires : tie.Need-trim-first-requires Inv-loop μ-loop
-trim-first-requires c κs = (search needs, search needs, refl, λ p s x. rw (zero-row 32 p s) at x, c .before .before .pre .2)
+trim-first-requires c κs = (search needs, search needs, refl, λ p s x. rw (zero-row setWords p s) at x, c .before .before .pre .2)
 
 loop-holds : tie.Need-loop-holds Inv-loop μ-loop
 loop-holds c = (false, trimmed-idle)
@@ -29,7 +30,7 @@ trim-round-requires : tie.Need-trim-round-requires Inv-loop μ-loop
 trim-round-requires c κs =
     let first = c .before .before .before .trim-first .ensures in
     let g = c .before .before .loop .inv .1 in
-    let long : length (c .before .before .before .before .before .before .args .xs) ≡ 32 = search needs in
+    let long : length (c .before .before .before .before .before .before .args .xs) ≡ setWords = search needs in
     (search needs, g .shrunk .size ∙ first .0 .size ∙ long, g .shrunk .size-gone ∙ first .1, c .before .before .before .before .before .before .pre .1, c .before .before .before .before .before .before .pre .2)
 
 returns : tie.Need-returns Inv-loop μ-loop

@@ -4,13 +4,14 @@ use mathlib.Core.Path.{_≡_, _∙_}
 use Prim.Native.Nat.{_≤_, _-_}
 use native.Mathlib.Omega.{arith}
 use lib.ListN.{length}
+use Rattle.truth.specs.Sizes.{setWords}
 use Rattle.truth.specs.Trimmed.{Started}
 use Rattle.truth.proofs.trimming.TrimStart.{started-none}
 use Rattle.truth.proofs.trimming.trim_first.Statement.{statement}
 use Rattle.truth.proofs.trimming.trim_first.Tie as tie
 
 abbrev Inv-loop : tie.InvT-loop
-Inv-loop allow back onto t xs₀ gone₀ table p₀ xs gone p = (p ≤ t) × (length gone ≡ 32) × Started allow back t p xs₀ xs gone
+Inv-loop allow back onto t xs₀ gone₀ table p₀ xs gone p = (p ≤ t) × (length gone ≡ setWords) × Started allow back t p xs₀ xs gone
 
 abbrev μ-loop : tie.MeasureT-loop
 μ-loop allow back onto t xs₀ gone₀ table p₀ xs gone p = t - p
@@ -21,8 +22,8 @@ befores-requires c κs = omega arith
 loop-holds : tie.Need-loop-holds Inv-loop μ-loop
 loop-holds c = (search needs, c .before .before .pre .2, started-none (c .before .before .pre .3))
 
-start-row-requires : tie.Need-start-row-requires Inv-loop μ-loop
-start-row-requires c κs =
+trim-first-row-requires : tie.Need-trim-first-row-requires Inv-loop μ-loop
+trim-first-row-requires c κs =
     let pre = c .before .before .before .before .before .before .before .pre in
     let l = c .before .before .before .before .loop in
     (omega arith, pre .0, l .inv .2 .size ∙ pre .1, l .inv .1, pre .4)
@@ -36,7 +37,7 @@ loop-less c = omega arith
 loop-again : tie.Need-loop-again Inv-loop μ-loop
 loop-again c =
     let at = c .before .before .before .before .before .loop in
-    let r = c .start-row .ensures in
+    let r = c .trim-first-row .ensures in
     (search needs, r .1 .1, r .0 _ _ (c .before .before .before .before .before .before .befores .ensures) (at .inv .2))
 
 returns : tie.Need-returns Inv-loop μ-loop
@@ -52,7 +53,7 @@ trim-first-spec =
     μ-loop
     befores-requires
     loop-holds
-    start-row-requires
+    trim-first-row-requires
     add-p
     loop-less
     loop-again

@@ -6,6 +6,7 @@ use native.Mathlib.Omega.{arith}
 use mathlib.Core.Bool.{true, false, not, true≢false}
 use lib.Dec.{T}
 use Rattle.sheets.specs.Words.{each}
+use Rattle.truth.specs.Sizes.{membersMost}
 use Rattle.truth.specs.Rows.{rowHas, rowsHas}
 use Rattle.truth.specs.Pairs.{Before, Cleared}
 use Rattle.truth.proofs.rows.RowLaws.{held-in, none-passes}
@@ -32,7 +33,7 @@ returns : tie.Need-returns
 returns c =
     let a = c .before .before .before .before .args in
     let from = c .before .before .load .ensures in
-    let none : each 128 (λ s. not (rowsHas (a .gone .now) (a .p2) s)) ≡ true = rw (from .0, from .1) at (sym (c .before .is-empty .ensures) ∙ c .if1 .taken) in
+    let none : each membersMost (λ s. not (rowsHas (a .gone .now) (a .p2) s)) ≡ true = rw (from .0, from .1) at (sym (c .before .is-empty .ensures) ∙ c .if1 .taken) in
     (trimmed-idle, λ y. none-passes (rowsHas (a .gone .now) (a .p2)) (held-in _ _) none)
 
 empty-requires : tie.Need-empty-requires
@@ -61,7 +62,7 @@ returns-2 c =
     let on = c .before .before .before .load2 .ensures in
     let pre = c .before .before .before .before .together in
     let ahead : (s : ℕ) → T (rowHas (pre .result) s) ↔ Before (a .back .now) (rowsHas (a .gone .now) (a .p2)) s = rw (from .0, from .1) at (pre .ensures) in
-    let some : each 128 (λ s. not (rowsHas (a .gone .now) (a .p2) s)) ≡ false =
+    let some : each membersMost (λ s. not (rowsHas (a .gone .now) (a .p2) s)) ≡ false =
     rw (from .0, from .1) at (sym (asked .is-empty .ensures) ∙ c .before .before .before .before .before .before .before .before .before .if1 .left) in
     let m = c .trim-into .ensures in
     let known = c .before .before .before .before .before .before .before .before .before .before .before .before .before .pre in (

@@ -2,6 +2,7 @@
 use Prim.Native.Nat.{_-_, _≤_}
 use native.Mathlib.Omega.{arith}
 use Rattle.sheets.proofs.Counting.{number}
+use Rattle.truth.specs.Sizes.{membersMost}
 use Rattle.truth.specs.Rows.{rowHas}
 use Rattle.truth.specs.Trimmed.{Moved, OwingTo}
 use Rattle.truth.proofs.rows.RowWalks.{none-left, one-left, one-within, less-falls, Visited, visited-none, visited-next, visited-end}
@@ -14,7 +15,7 @@ Inv-loop allow next onto t p2 pre xs₀ gone₀ left₀ xs gone left =
     Moved allow next t xs₀ gone₀ xs gone × Visited (λ u. OwingTo allow next t p2 (rowHas pre) xs gone (u - 1)) (rowHas left₀) (rowHas left)
 
 abbrev μ-loop : tie.MeasureT-loop
-μ-loop allow next onto t p2 pre xs₀ gone₀ left₀ xs gone left = number 128 (rowHas left)
+μ-loop allow next onto t p2 pre xs₀ gone₀ left₀ xs gone left = number membersMost (rowHas left)
 
 -- the member that is found
 few : (c : tie.Else1 Inv-loop μ-loop) → (1 ≤ c .before .first .result) × (c .before .first .result ≤ c .before .before .before .args .t)
