@@ -9,13 +9,14 @@ use mathlib.Core.List.{List, _++_}
 use mathlib.Core.Bool.{true, false}
 use lib.ListN.{length}
 use Rattle.truth.specs.Passed.{M1, M2, Refusal, none as noRefusal, machineQuestions, machineRefusal, nodes, signals, word}
-use Rattle.truth.proofs.Passed.{first-has, signals-sized, machine-cases}
+use Rattle.truth.proofs.Passed.{signals-sized, machine-cases}
 use Rattle.text.specs.declared.line.Line.{Line}
 use Rattle.text.proofs.HeldLines.{held-text}
 use Rattle.input.specs.Limits.{nodesMost, machinesBytes, ruleWords}
 use Rattle.input.specs.Bytes.{readable, wordsOf, bytesOf}
 use Rattle.input.specs.Cut.{firstSheet, secondSheet}
 use Rattle.input.specs.Lines.{text, refusedLine}
+use Rattle.input.proofs.Passed.{first-has}
 use Rattle.input.proofs.Cuts.{by-reply}
 use Rattle.input.proofs.JoinedSheets.{joined-readable, joined-first, joined-second}
 use Rattle.input.proofs.WorkedInput.{input-cases}

@@ -12,7 +12,7 @@ use Rattle.sheets.specs.Questions.{Refusal, none as noRefusal, firstNo}
 use Rattle.sheets.specs.Rules.{lent, automata, states, transitions, lines, q8}
 use Rattle.sheets.proofs.Questions.{rule-answers}
 use Rattle.sheets.proofs.AcceptedMachine.{signals-sized}
-use Rattle.input.specs.Limits.{rowsWords}
+use Rattle.truth.specs.Sizes.{rowWords}
 use Rattle.comparison.specs.Comparison.{Written, nextWords}
 use Rattle.comparison.specs.CompareAnswers.{comparisonQuestions}
 use Rattle.comparison.proofs.CompareTable.{Compared, compared}
@@ -61,7 +61,7 @@ module _ (M₁ M₂ R before after : List ℕ) (w : Written M₁ M₂ R before a
     pub telling : Telling M₁ M₂ R
     unfolding Labelable noRefusal
     telling = record {
-      first = ap (λ (r : Refusal). r .number) (w .labels₁ rowsWords (omega (arith, few-lines)));
-      second = ap (λ (r : Refusal). r .number) (w .labels₂ rowsWords (omega (arith, few-lines)));
+      first = ap (λ (r : Refusal). r .number) (w .labels₁ (rowWords * linesMost) (omega (arith, few-lines)));
+      second = ap (λ (r : Refusal). r .number) (w .labels₂ (rowWords * linesMost) (omega (arith, few-lines)));
       apart = w .apart;
     }

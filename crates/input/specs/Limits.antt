@@ -1,6 +1,6 @@
--- How much the programs take and lend: words and bytes of sheets, bytes of a text, and space for what is answered.
+-- How much the programs take and lend: words and bytes of sheets, bytes of a text, words of a written rule.
 use Prim.Native.Nat.{ℕ, _*_}
-use Rattle.sheets.specs.Format.{linesMost, sheetsLongest, ruleSpaceLongest}
+use Rattle.sheets.specs.Format.{sheetsLongest, ruleSpaceLongest}
 pub use Rattle.sheets.specs.Format.{nodesMost, ruleSpace}
 
 -- the longest machine sheet with the longest rule sheet; one sheet alone may be as long
@@ -21,9 +21,6 @@ machinesBytes = 2 * machinesWords
 abbrev pub textBytes : ℕ
 textBytes = 200000
 
--- space for the longest written rule, and for the rows of the most lines, two words a line
+-- the longest written rule
 abbrev pub ruleWords : ℕ
 ruleWords = ruleSpaceLongest
-
-abbrev pub rowsWords : ℕ
-rowsWords = 2 * linesMost

@@ -1,4 +1,4 @@
-// How much the programs take and lend: words and bytes of sheets, bytes of a text, and space for what is answered.
+// How much the programs take and lend: words and bytes of sheets, bytes of a text, words of a written rule.
 use sheets::format;
 
 // The longest machine sheet with the longest rule sheet; one sheet alone may be as long.
@@ -14,9 +14,5 @@ pub const MACHINES_BYTES: usize = 2 * MACHINES_WORDS;
 // The text of a sheet.
 pub const TEXT_BYTES: usize = 200000;
 
-// Space for the longest written rule, for the rows of the most lines, two words a line, and for a path, with each node in each state once.
+// The longest written rule.
 pub const RULE_WORDS: usize = format::RULE_SPACE_LONGEST;
-
-pub const ROWS_WORDS: usize = 2 * format::LINES;
-
-pub const PATH_PAIRS: usize = format::NODES * format::CHAINED;

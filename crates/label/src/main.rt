@@ -5,13 +5,15 @@ mod print; // print.rt: what is printed
 
 use input::limits;
 use libc::STDIN_FILENO;
+use sheets::format;
 use truth::labelling::Labelled;
+use truth::sizes;
 
 // Reads one byte more than is taken, so that a longer input is noticed.
 fn main() {
     let mut input = [0u8; limits::SHEETS_BYTES + 1];
     let n = io::read_full(STDIN_FILENO, &mut input);
-    let mut rows = [0u64; limits::ROWS_WORDS];
+    let mut rows = [0u64; sizes::ROW_WORDS * format::LINES];
     let answer = answer::answer_to(&input[..n], &mut rows);
     let labelled = answer.labelled;
     match labelled {

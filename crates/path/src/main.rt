@@ -9,6 +9,7 @@ use input::limits;
 use libc::STDERR_FILENO;
 use libc::STDIN_FILENO;
 use truth::path::Shown;
+use truth::sizes;
 
 fn usage() {
     io::write_all(
@@ -21,8 +22,8 @@ fn usage() {
 fn show(line: u16, node: u16) {
     let mut input = [0u8; limits::SHEETS_BYTES + 1];
     let n = io::read_full(STDIN_FILENO, &mut input);
-    let mut nodes = [0u16; limits::PATH_PAIRS];
-    let mut states = [0u16; limits::PATH_PAIRS];
+    let mut nodes = [0u16; sizes::PAIRS];
+    let mut states = [0u16; sizes::PAIRS];
     let answer = answer::answer_to(&input[..n], line, node, &mut nodes, &mut states);
     match answer {
         Shown::Refused { question, sheet } => say::refusal(question, sheet),

@@ -77,7 +77,8 @@ module _ (sort : Sort) (bytes : List ℕ) where
     unfolding lineBytes
     said = held-text (told .line) (lineBytes (told .answer)) (h .held) ∙ ap lineBytes (checked .1)
 
-    accepted-exactly : (text (told .line) ≡ checkLine Accepted) ↔ ((readable sheetsBytes (length bytes) ≡ true) × (first .number ≡ 0))
+    -- end result
+    pub accepted-exactly : (text (told .line) ≡ checkLine Accepted) ↔ ((readable sheetsBytes (length bytes) ≡ true) × (first .number ≡ 0))
     accepted-exactly = (
       λ e. taken-accepted (checked .0) (checked .2) (is-accepted (checked .0) (sym said ∙ e)),
       λ z. said ∙ ap checkLine (accepted-taken (checked .0) (checked .2) (z .0) (z .1)),
