@@ -2,7 +2,7 @@
 -- comparison answers, in any space that is large enough; of (a) also what the program prints; of (e) and (f) where the lines are true, that
 -- the sheets are accepted, and what labelling answers: its rows, kept, count and percent.
 use mathlib.Core.Path.{_≡_, refl}
-use Prim.Native.Nat.{ℕ, _+_, _*_, _≤_}
+use Prim.Native.Nat.{ℕ, _+_, _≤_}
 use native.Mathlib.Omega.{arith}
 use mathlib.Core.List.{List, _++_}
 use mathlib.Core.Bool.{true, false}

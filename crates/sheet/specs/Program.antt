@@ -13,7 +13,6 @@ use Rattle.sheets.specs.declared.checks.Check as Check
 use Rattle.sheets.specs.declared.checks.Check.the-variants.{Accepted, Refused}
 use Rattle.text.specs.Lines.{Holds}
 use Rattle.text.specs.Texts as Texts
-use Rattle.text.specs.declared.line.Line.{Line}
 use Rattle.text.specs.declared.read.Place.{Place}
 use Rattle.text.specs.declared.read.Kind.{Kind}
 use Rattle.input.specs.Limits.{sheetsWords, sheetsBytes, textBytes}
