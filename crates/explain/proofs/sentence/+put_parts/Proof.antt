@@ -81,26 +81,37 @@ put-parts-sub-t21 t c = search needs
 
 put-parts-put-parts-requires : (t : ℕ) → put-parts-lts.Need-put-parts-requires (claims t) (put-parts-at t) put-parts.Post put-parts-Inv-loop put-parts-μ-loop
 put-parts-put-parts-requires t c κs =
-    let pre = c .before .before .before .before .before .before .before .before .before .before .before .before .before .before .before .before .before .before .before .pre in
-    (omega (arith, pre .0, c .before .before .if2 .taken), tt)
+    let at-if2 = c .before .before in
+    let at-start = at-if2 .before .before .before .before .before .before .before .before .before .before .before .before .before .before .before .before .before in
+    let pre = at-start .pre in
+    (omega (arith, pre .0, at-if2 .if2 .taken), tt)
 
 put-parts-loop-less : (t : ℕ) → put-parts-lts.Need-loop-less (claims t) (put-parts-at t) put-parts.Post put-parts-Inv-loop put-parts-μ-loop
 put-parts-loop-less t c = search needs
 
 put-parts-loop-again : (t : ℕ) → put-parts-lts.Need-loop-again (claims t) (put-parts-at t) put-parts.Post put-parts-Inv-loop put-parts-μ-loop
-put-parts-loop-again t c = (search needs, follows-then (c .before .before .before .before .before .before .before .before .before .before .before .before .before .loop .inv .1) (follows-then (c .before .before .before .before .before .before .before .before .part .ensures) (c .put-parts .ensures)))
+put-parts-loop-again t c =
+    let at-part = c .before .before .before .before .before .before .before .before in
+    let at-loop = at-part .before .before .before .before .before in
+    (search needs, follows-then (at-loop .loop .inv .1) (follows-then (at-part .part .ensures) (c .put-parts .ensures)))
 
 put-parts-loop-less-2 : (t : ℕ) → put-parts-lts.Need-loop-less-2 (claims t) (put-parts-at t) put-parts.Post put-parts-Inv-loop put-parts-μ-loop
 put-parts-loop-less-2 t c = search needs
 
 put-parts-loop-again-2 : (t : ℕ) → put-parts-lts.Need-loop-again-2 (claims t) (put-parts-at t) put-parts.Post put-parts-Inv-loop put-parts-μ-loop
-put-parts-loop-again-2 t c = (search needs, follows-then (c .before .before .before .before .before .before .before .before .before .before .loop .inv .1) (c .before .before .before .before .before .part .ensures))
+put-parts-loop-again-2 t c =
+    let at-part = c .before .before .before .before .before in
+    let at-loop = at-part .before .before .before .before .before in
+    (search needs, follows-then (at-loop .loop .inv .1) (at-part .part .ensures))
 
 put-parts-loop-less-3 : (t : ℕ) → put-parts-lts.Need-loop-less-3 (claims t) (put-parts-at t) put-parts.Post put-parts-Inv-loop put-parts-μ-loop
 put-parts-loop-less-3 t c = search needs
 
 put-parts-loop-again-3 : (t : ℕ) → put-parts-lts.Need-loop-again-3 (claims t) (put-parts-at t) put-parts.Post put-parts-Inv-loop put-parts-μ-loop
-put-parts-loop-again-3 t c = (search needs, follows-then (c .before .before .before .before .before .before .before .before .loop .inv .1) (c .before .before .before .part .ensures))
+put-parts-loop-again-3 t c =
+    let at-part = c .before .before .before in
+    let at-loop = at-part .before .before .before .before .before in
+    (search needs, follows-then (at-loop .loop .inv .1) (at-part .part .ensures))
 
 put-parts-returns : (t : ℕ) → put-parts-lts.Need-returns (claims t) (put-parts-at t) put-parts.Post put-parts-Inv-loop put-parts-μ-loop
 put-parts-returns t c = follows-then (c .before .before .before .any-signals .ensures) (c .before .loop .inv .1)

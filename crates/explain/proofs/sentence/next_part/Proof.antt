@@ -26,7 +26,11 @@ closed-requires : tie.Need-closed-requires
 closed-requires c κs = search needs
 
 returns-2 : tie.Need-returns-2
-returns-2 c = rw (c .closed .ensures) (follows-then (follows-back (c .before .before .before .before .before .before .before .before .before .opened .ensures)) (follows-then (c .before .before .before .before .before .before .put .ensures) (follows-then (c .before .before .before .put2 .ensures) (c .before .put-line .ensures))))
+returns-2 c =
+    let at-put2 = c .before .before .before in
+    let at-put = at-put2 .before .before .before in
+    let at-opened = at-put .before .before .before in
+    rw (c .closed .ensures) (follows-then (follows-back (at-opened .opened .ensures)) (follows-then (at-put .put .ensures) (follows-then (at-put2 .put2 .ensures) (c .before .put-line .ensures))))
 
 pub next-part-spec : {M : Type 1} → statement M
 next-part-spec =

@@ -29,7 +29,11 @@ fits-requires : tie.Need-fits-requires
 fits-requires c κs = search needs
 
 returns-4 : tie.Need-returns-4
-returns-4 c = follows-then (c .before .before .before .before .before .before .before .before .signals2 .ensures) (follows-then (c .before .before .before .before .before .and .ensures) (c .before .before .before .signals3 .ensures))
+returns-4 c =
+    let at-signals3 = c .before .before .before in
+    let at-and = at-signals3 .before .before in
+    let at-signals2 = at-and .before .before .before in
+    follows-then (at-signals2 .signals2 .ensures) (follows-then (at-and .and .ensures) (at-signals3 .signals3 .ensures))
 
 and-requires-2 : tie.Need-and-requires-2
 and-requires-2 c κs = search needs
@@ -38,7 +42,12 @@ signals-requires-4 : tie.Need-signals-requires-4
 signals-requires-4 c κs = search needs
 
 returns-5 : tie.Need-returns-5
-returns-5 c = follows-then (c .before .before .before .before .before .before .before .before .before .before .before .before .signals2 .ensures) (follows-then (follows-back (follows-then (c .before .before .before .before .before .before .before .before .before .and .ensures) (c .before .before .before .before .before .before .before .signals3 .ensures))) (follows-then (c .before .before .and2 .ensures) (c .signals4 .ensures)))
+returns-5 c =
+    let at-and2 = c .before .before in
+    let at-signals3 = at-and2 .before .before .before .before .before in
+    let at-and = at-signals3 .before .before in
+    let at-signals2 = at-and .before .before .before in
+    follows-then (at-signals2 .signals2 .ensures) (follows-then (follows-back (follows-then (at-and .and .ensures) (at-signals3 .signals3 .ensures))) (follows-then (at-and2 .and2 .ensures) (c .signals4 .ensures)))
 
 pub on-and-off-spec : {M : Type 1} → statement M
 on-and-off-spec =

@@ -29,7 +29,11 @@ goes-on-requires : tie.Need-goes-on-requires
 goes-on-requires c κs = search needs
 
 returns-2 : tie.Need-returns-2
-returns-2 c = follows-then (c .before .before .before .before .before .before .before .put .ensures) (follows-then (c .before .before .before .before .put2 .ensures) (follows-back (c .before .before .any-signals .ensures)))
+returns-2 c =
+    let at-any-signals = c .before .before in
+    let at-put2 = at-any-signals .before .before in
+    let at-put = at-put2 .before .before .before in
+    follows-then (at-put .put .ensures) (follows-then (at-put2 .put2 .ensures) (follows-back (at-any-signals .any-signals .ensures)))
 
 has-lines-requires : tie.Need-has-lines-requires
 has-lines-requires c κs = search needs
@@ -38,13 +42,21 @@ closed-requires-2 : tie.Need-closed-requires-2
 closed-requires-2 c κs = search needs
 
 returns-3 : tie.Need-returns-3
-returns-3 c = rw (c .closed2 .ensures) (follows-back (follows-then (c .before .before .before .before .before .before .before .before .before .before .put .ensures) (follows-then (c .before .before .before .before .before .before .before .put2 .ensures) (c .before .before .before .before .before .any-signals .ensures))))
+returns-3 c =
+    let at-any-signals = c .before .before .before .before .before in
+    let at-put2 = at-any-signals .before .before in
+    let at-put = at-put2 .before .before .before in
+    rw (c .closed2 .ensures) (follows-back (follows-then (at-put .put .ensures) (follows-then (at-put2 .put2 .ensures) (at-any-signals .any-signals .ensures))))
 
 closed-requires-3 : tie.Need-closed-requires-3
 closed-requires-3 c κs = search needs
 
 returns-4 : tie.Need-returns-4
-returns-4 c = rw (c .closed3 .ensures) (follows-back (follows-then (c .before .before .before .before .before .before .before .before .before .before .before .before .put .ensures) (follows-then (c .before .before .before .before .before .before .before .before .before .put2 .ensures) (c .before .before .before .before .before .before .before .any-signals .ensures))))
+returns-4 c =
+    let at-any-signals = c .before .before .before .before .before .before .before in
+    let at-put2 = at-any-signals .before .before in
+    let at-put = at-put2 .before .before .before in
+    rw (c .closed3 .ensures) (follows-back (follows-then (at-put .put .ensures) (follows-then (at-put2 .put2 .ensures) (at-any-signals .any-signals .ensures))))
 
 slice-aggregate-put-2 : tie.Need-slice-aggregate-put-2
 slice-aggregate-put-2 c = search needs
@@ -62,7 +74,12 @@ add-t31 : tie.Need-add-t31
 add-t31 c = search needs
 
 returns-5 : tie.Need-returns-5
-returns-5 c = follows-then (c .before .before .before .before .before .before .before .before .before .before .before .before .before .before .before .before .before .before .put .ensures) (follows-then (follows-back (follows-then (c .before .before .before .before .before .before .before .before .before .before .before .before .before .before .before .put2 .ensures) (c .before .before .before .before .before .before .before .before .before .before .before .before .before .any-signals .ensures))) (follows-then (c .before .before .before .before .put3 .ensures) (c .before .new-line .ensures)))
+returns-5 c =
+    let at-put3 = c .before .before .before .before in
+    let at-any-signals = at-put3 .before .before .before .before .before .before .before .before .before in
+    let at-put2 = at-any-signals .before .before in
+    let at-put = at-put2 .before .before .before in
+    follows-then (at-put .put .ensures) (follows-then (follows-back (follows-then (at-put2 .put2 .ensures) (at-any-signals .any-signals .ensures))) (follows-then (at-put3 .put3 .ensures) (c .before .new-line .ensures)))
 
 pub opened-spec : {M : Type 1} → statement M
 opened-spec =

@@ -35,7 +35,9 @@ next-part-requires : tie.Need-next-part-requires
 next-part-requires c κs = search needs
 
 returns-3 : tie.Need-returns-3
-returns-3 c = follows-then (c .before .before .before .before .before .before .before .before .before .after-others .ensures) (c .next-part .ensures)
+returns-3 c =
+    let at-after-others = c .before .before .before .before .before .before .before .before .before in
+    follows-then (at-after-others .after-others .ensures) (c .next-part .ensures)
 
 slice-aggregate-next-part-2 : tie.Need-slice-aggregate-next-part-2
 slice-aggregate-next-part-2 c = search needs
@@ -50,7 +52,9 @@ or-part-requires : tie.Need-or-part-requires
 or-part-requires c κs = search needs
 
 returns-4 : tie.Need-returns-4
-returns-4 c = follows-then (c .before .before .before .before .before .before .before .after-others .ensures) (c .or-part .ensures)
+returns-4 c =
+    let at-after-others = c .before .before .before .before .before .before .before in
+    follows-then (at-after-others .after-others .ensures) (c .or-part .ensures)
 
 referred-requires-2 : tie.Need-referred-requires-2
 referred-requires-2 c κs = search needs
@@ -65,10 +69,14 @@ closed-requires-4 : tie.Need-closed-requires-4
 closed-requires-4 c κs = search needs
 
 returns-5 : tie.Need-returns-5
-returns-5 c = follows-then (c .before .before .before .before .before .before .before .before .before .after-others .ensures) (c .next-part2 .ensures)
+returns-5 c =
+    let at-after-others = c .before .before .before .before .before .before .before .before .before in
+    follows-then (at-after-others .after-others .ensures) (c .next-part2 .ensures)
 
 returns-6 : tie.Need-returns-6
-returns-6 c = rw (c .closed3 .ensures) (follows-then (c .before .before .before .before .before .before .before .before .after-others .ensures) (c .before .referred2 .ensures))
+returns-6 c =
+    let at-after-others = c .before .before .before .before .before .before .before .before in
+    rw (c .closed3 .ensures) (follows-then (at-after-others .after-others .ensures) (c .before .referred2 .ensures))
 
 returns-7 : tie.Need-returns-7
 returns-7 c = rw (c .closed4 .ensures) (follows-then (c .before .before .before .before .before .before .after-others .ensures) (c .before .referred3 .ensures))

@@ -24,8 +24,10 @@ cast-line-row c = search needs
 line-row-requires : tie.Need-line-row-requires
 unfolding Labelable
 line-row-requires c κs =
-    let labelled = c .before .before .before .label in
-    let none = sym (c .before .before .before .before .before .before .before .pre) in
+    let at-label = c .before .before .before in
+    let at-start = at-label .before .before .before .before in
+    let labelled = at-label .label in
+    let none = sym (at-start .pre) in
     rw (c .lines .ensures) (last-in _ _ _ (labelled .last .1 .1 .0) (labelled .result) (labelled .ensures) none)
 
 first-break-requires : tie.Need-first-break-requires
@@ -34,11 +36,14 @@ first-break-requires c κs = search needs
 returns : tie.Need-returns
 unfolding Labelable
 returns c =
-    let labelled = c .before .before .before .before .before .label in
-    let none = sym (c .before .before .before .before .before .before .before .before .before .pre) in
+    let at-lines = c .before .before in
+    let at-label = at-lines .before .before .before in
+    let at-start = at-label .before .before .before .before in
+    let labelled = at-label .label in
+    let none = sym (at-start .pre) in
     let row = c .before .line-row in
-    let lo = rw (c .before .before .lines .ensures) at (row .ensures .0) in
-    let hi = rw (c .before .before .lines .ensures) at (row .ensures .1) in
+    let lo = rw (at-lines .lines .ensures) at (row .ensures .0) in
+    let hi = rw (at-lines .lines .ensures) at (row .ensures .1) in
     let node = c .first-break in
     let after = labelled .last .1 .1 .0 in
     first-break _ _ _ after (labelled .result) (labelled .ensures) none (row .result .low) (row .result .high) (node .result) lo hi (node .ensures)

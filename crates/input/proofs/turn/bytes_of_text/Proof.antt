@@ -47,21 +47,31 @@ same-length c = search needs
 
 returns-3 : tie.Need-returns-3
 returns-3 c =
-    let start = c .before .before .before .before .before .before .before .before .before .before .before .before .before .before .before .args in
-    let put = c .before .before .bytes-of in
-    let read = c .before .before .before .before .before .before .before .before .before .words-of-text in
-    let got = got-words _ _ _ _ (sym (c .before .before .before .before .before .before .answer .given .1) ∙ read .ensures .0) (read .ensures .1) (read .kept .1 .0) in
-    let short = c .before .before .before .before .before .before .before .before .before .before .before .before .if1 .left in
-    let roomy = c .before .before .before .before .before .before .before .before .before .before .before .if2 .left in
+    let at-bytes-of = c .before .before in
+    let at-answer = at-bytes-of .before .before .before .before in
+    let at-words-of-text = at-answer .before .before .before in
+    let at-if2 = at-words-of-text .before .before in
+    let at-if1 = at-if2 .before in
+    let at-start = at-if1 .before .before .before in
+    let start = at-start .args in
+    let put = at-bytes-of .bytes-of in
+    let read = at-words-of-text .words-of-text in
+    let got = got-words _ _ _ _ (sym (at-answer .answer .given .1) ∙ read .ensures .0) (read .ensures .1) (read .kept .1 .0) in
+    let short = at-if1 .if1 .left in
+    let roomy = at-if2 .if2 .left in
     bytes-done (start .text .now) (start .sheet .now) short roomy
     _ (put .result) (read .last .1 .0) _ got (read .kept .1 .0) (put .ensures .0) (put .ensures .1)
 
 returns-4 : tie.Need-returns-4
 returns-4 c =
-    let start = c .before .before .before .before .before .before .before .before .before .before .args in
-    let faulty = got-fault _ _ _ (sym (c .before .answer2 .given .1) ∙ c .before .before .before .before .words-of-text .ensures .0) in
-    let short = c .before .before .before .before .before .before .before .if1 .left in
-    text-faulty (start .text .now) (start .sheet .now) short (c .before .before .before .before .before .before .if2 .left) _ _ faulty
+    let at-words-of-text = c .before .before .before .before in
+    let at-if2 = at-words-of-text .before .before in
+    let at-if1 = at-if2 .before in
+    let at-start = at-if1 .before .before .before in
+    let start = at-start .args in
+    let faulty = got-fault _ _ _ (sym (c .before .answer2 .given .1) ∙ at-words-of-text .words-of-text .ensures .0) in
+    let short = at-if1 .if1 .left in
+    text-faulty (start .text .now) (start .sheet .now) short (at-if2 .if2 .left) _ _ faulty
 
 pub bytes-of-text-spec : {M : Type 1} → statement M
 bytes-of-text-spec =

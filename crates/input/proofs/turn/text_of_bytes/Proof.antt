@@ -49,13 +49,18 @@ same-length c = search needs
 returns-3 : tie.Need-returns-3
 unfolding ofWritten
 returns-3 c =
-    let start = c .before .before .before .before .before .before .before .before .before .before .before .before .before .before .before .args in
-    let got = c .before .before .before .before .before .before .before .before .before .words-of in
-    let put = c .before .before .before .before .before .text-of-words in
-    let short = c .before .before .before .before .before .before .before .before .before .before .before .before .if1 .left in
+    let at-text-of-words = c .before .before .before .before .before in
+    let at-words-of = at-text-of-words .before .before .before .before in
+    let at-if2 = at-words-of .before .before in
+    let at-if1 = at-if2 .before in
+    let at-start = at-if1 .before .before .before in
+    let start = at-start .args in
+    let got = at-words-of .words-of in
+    let put = at-text-of-words .text-of-words in
+    let short = at-if1 .if1 .left in
     let all = words-all (start .sheet .now) _ (got .last .1 .0) (got .result) (omega arith) (got .ensures .0) (got .ensures .1) in
     let told = rw (c .before .answer .given .1) at (put .ensures .0) in
-    text-done (start .sheet .now) (start .text .now) short (c .before .before .before .before .before .before .before .before .before .before .before .if2 .left) _ _ _ all told (put .ensures .1)
+    text-done (start .sheet .now) (start .text .now) short (at-if2 .if2 .left) _ _ _ all told (put .ensures .1)
 
 same-length-2 : tie.Need-same-length-2
 same-length-2 c = search needs
@@ -63,13 +68,18 @@ same-length-2 c = search needs
 returns-4 : tie.Need-returns-4
 unfolding ofWritten
 returns-4 c =
-    let start = c .before .before .before .before .before .before .before .before .before .before .before .before .before .before .args in
-    let got = c .before .before .before .before .before .before .before .before .words-of in
-    let put = c .before .before .before .before .text-of-words in
-    let short = c .before .before .before .before .before .before .before .before .before .before .before .if1 .left in
+    let at-text-of-words = c .before .before .before .before in
+    let at-words-of = at-text-of-words .before .before .before .before in
+    let at-if2 = at-words-of .before .before in
+    let at-if1 = at-if2 .before in
+    let at-start = at-if1 .before .before .before in
+    let start = at-start .args in
+    let got = at-words-of .words-of in
+    let put = at-text-of-words .text-of-words in
+    let short = at-if1 .if1 .left in
     let all = words-all (start .sheet .now) _ (got .last .1 .0) (got .result) (omega arith) (got .ensures .0) (got .ensures .1) in
     let told = rw (c .enum-told .given .1) at (put .ensures .0) in
-    text-done (start .sheet .now) (start .text .now) short (c .before .before .before .before .before .before .before .before .before .before .if2 .left) _ _ _ all told (put .ensures .1)
+    text-done (start .sheet .now) (start .text .now) short (at-if2 .if2 .left) _ _ _ all told (put .ensures .1)
 
 pub text-of-bytes-spec : {M : Type 1} → statement M
 text-of-bytes-spec =

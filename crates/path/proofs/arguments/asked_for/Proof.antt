@@ -25,8 +25,11 @@ enum-told c = search needs
 returns-2 : tie.Need-returns-2
 unfolding askedOf both
 returns-2 c =
-    let three = eq-eqb (c .before .before .before .before .before .before .before .args .count) 3 (c .before .before .before .before .if1 .left) in
-    rw (three, sym (c .before .before .before .number-of .ensures) ∙ c .enum-told .given .1)
+    let at-number-of = c .before .before .before in
+    let at-if1 = at-number-of .before in
+    let at-start = at-if1 .before .before .before in
+    let three = eq-eqb (at-start .args .count) 3 (at-if1 .if1 .left) in
+    rw (three, sym (at-number-of .number-of .ensures) ∙ c .enum-told .given .1)
 
 enum-known-node : tie.Need-enum-known-node
 enum-known-node c = search needs
@@ -37,14 +40,24 @@ enum-told-2 c = search needs
 returns-3 : tie.Need-returns-3
 unfolding askedOf both
 returns-3 c =
-    let three = eq-eqb (c .before .before .before .before .before .before .before .before .before .before .args .count) 3 (c .before .before .before .before .before .before .before .if1 .left) in
-    rw (three, sym (c .before .before .before .before .before .before .number-of .ensures) ∙ c .before .before .before .line .given .1, sym (c .before .before .before .before .before .number-of2 .ensures) ∙ c .enum-told2 .given .1)
+    let at-line = c .before .before .before in
+    let at-number-of2 = at-line .before .before in
+    let at-number-of = at-number-of2 .before in
+    let at-if1 = at-number-of .before in
+    let at-start = at-if1 .before .before .before in
+    let three = eq-eqb (at-start .args .count) 3 (at-if1 .if1 .left) in
+    rw (three, sym (at-number-of .number-of .ensures) ∙ at-line .line .given .1, sym (at-number-of2 .number-of2 .ensures) ∙ c .enum-told2 .given .1)
 
 returns-4 : tie.Need-returns-4
 unfolding askedOf both
 returns-4 c =
-    let three = eq-eqb (c .before .before .before .before .before .before .before .before .before .before .before .args .count) 3 (c .before .before .before .before .before .before .before .before .if1 .left) in
-    rw (three, sym (c .before .before .before .before .before .before .before .number-of .ensures) ∙ c .before .before .before .before .line .given .1, sym (c .before .before .before .before .before .before .number-of2 .ensures) ∙ c .before .node .given .1)
+    let at-line = c .before .before .before .before in
+    let at-number-of2 = at-line .before .before in
+    let at-number-of = at-number-of2 .before in
+    let at-if1 = at-number-of .before in
+    let at-start = at-if1 .before .before .before in
+    let three = eq-eqb (at-start .args .count) 3 (at-if1 .if1 .left) in
+    rw (three, sym (at-number-of .number-of .ensures) ∙ at-line .line .given .1, sym (at-number-of2 .number-of2 .ensures) ∙ c .before .node .given .1)
 
 pub asked-for-spec : {M : Type 1} → statement M
 asked-for-spec =
