@@ -1,7 +1,7 @@
 -- The questions of comparison, in the parts in which the code asks them: the first machine's, the second's, and those of both and the
 -- space. Where no question refuses, both sheets are accepted, their signals agree, their nodes are few, and the space is enough.
 use mathlib.Core.Path.{_≡_, refl, sym, _∙_}
-use Prim.Native.Nat.{ℕ, _+_, _*_, _≤_, _<_}
+use Prim.Native.Nat.{ℕ, _+_, _≤_, _<_}
 use native.Mathlib.Omega.{arith}
 use mathlib.Core.List.{List, _++_}
 use borrow.Author.Tests.{le-leb, lt-leb, eq-eqb, ne-eqb}

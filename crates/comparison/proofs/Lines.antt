@@ -6,7 +6,8 @@ use mathlib.Core.List.{List, [], _∷_, _++_, append-assoc, append-nil}
 use lib.ListN.{length, getD, replicate, length-append, List·getD-append}
 use lib.Seq.{getD-append-add}
 use Rattle.truth.specs.Passed.{Line, signal, negation, either, somePath, lifted, lines, lineWord, line, lineOf, lineWords, nextHead}
-use Rattle.comparison.specs.Lines.{Entry, sig, neg, alt, next, words, writtenWords, head, sheet, entry}
+use Rattle.comparison.specs.Comparison.{ruleHead}
+use Rattle.comparison.specs.Lines.{Entry, sig, neg, alt, next, words, writtenWords, sheet, entry}
 
 -- the words of one line below others
 line-words-added : (ls more : List Entry) → writtenWords (ls ++ more) ≡ writtenWords ls ++ writtenWords more
@@ -72,8 +73,8 @@ module _ (ls : List Entry) (j : ℕ) where
   unfolding lineWord lifted sheet entry
   word-is l e k h =
       let at : nextHead + lineWords * (j - 1) + k ≡ nextHead + (lineWords * (j - 1) + k) = omega arith in
-      ap (λ (n : ℕ). getD (head (length ls) ++ writtenWords ls) n 0) at
-      ∙ getD-append-add (head (length ls)) (writtenWords ls) (lineWords * (j - 1) + k) 0
+      ap (λ (n : ℕ). getD (ruleHead (length ls) ++ writtenWords ls) n 0) at
+      ∙ getD-append-add (ruleHead (length ls)) (writtenWords ls) (lineWords * (j - 1) + k) 0
       ∙ word-of-line ls (j - 1) k h
       ∙ ap (λ (x : Entry). getD (words x) k 0) e
 

@@ -1,19 +1,19 @@
 -- What is left to a program that writes the sheet of a list of lines: the rest of `Written` holds of the list.
 use mathlib.Core.Path.{_≡_, refl}
-use Prim.Native.Nat.{ℕ, _+_, _*_, _≤_}
+use Prim.Native.Nat.{ℕ, _+_, _≤_}
 use native.Mathlib.Omega.{arith}
-use mathlib.Core.List.{List, _∷_, _++_}
+use mathlib.Core.List.{List, _++_}
 use lib.ListN.{length, take, drop}
 use lib.Dec.{T}
 use Rattle.truth.specs.Passed.{nodes, signals, lines, lent, overSignals, machineRefusal, nodesMost, nextHead, linesWritten}
 use Rattle.truth.proofs.Passed.{signals-sized}
 use Rattle.truth.proofs.labelling.LabelTable.{label-accepts}
-use Rattle.comparison.specs.Comparison.{Written, ToldApart, nextWords}
+use Rattle.comparison.specs.Comparison.{Written, ToldApart, ruleHead}
 use Rattle.comparison.specs.Lines.{Entry, sheet, Downward}
 use Rattle.comparison.proofs.Lines.{lines-are}
 use Rattle.comparison.proofs.LinesAccepted.{accepted-lent, over-signals}
 
-head-is : (ls : List Entry) → take nextHead (sheet ls) ≡ 1 ∷ 4 ∷ 5 ∷ lines (sheet ls) ∷ 1 ∷ 1 ∷ nextWords
+head-is : (ls : List Entry) → take nextHead (sheet ls) ≡ ruleHead (lines (sheet ls))
 unfolding sheet lines
 head-is ls = refl
 

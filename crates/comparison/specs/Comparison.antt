@@ -35,6 +35,10 @@ nextWords =
     0 ∷ 1 ∷ 2 ∷ 0 ∷ 2 ∷ 3 ∷ 1 ∷ 4 ∷ 4 ∷ 0 ∷ 5 ∷ 0
     ∷ 2 ∷ 3 ∷ 0 ∷ 3 ∷ 2 ∷ 3 ∷ 4 ∷ 1 ∷ 0 ∷ 3 ∷ 3 ∷ 0 ∷ 4 ∷ 3 ∷ 0 ∷ []
 
+-- the words before the lines of a rule with l lines: the header, the record of one automaton, and Next
+abbrev pub ruleHead : ℕ → List ℕ
+ruleHead l = 1 ∷ 4 ∷ 5 ∷ l ∷ 1 ∷ 1 ∷ nextWords
+
 -- questions 20 to 22, of a space of so many words: "Are both a equal?", "Do the nodes sum to at most 128?", "Has the rule space at least
 -- 33 + 6 × (a + 7N) words?"
 unfoldable pub compareQuestions : List ℕ → List ℕ → ℕ → List Question
@@ -47,7 +51,7 @@ compareQuestions M₁ M₂ space =
 -- labelling accepts it with each of them, in any space that is large enough
 pub record Written (M₁ M₂ R before after : List ℕ) : Type 0 where
   pub stands : after ≡ R ++ drop (length R) before
-  pub head : take nextHead R ≡ 1 ∷ 4 ∷ 5 ∷ lines R ∷ 1 ∷ 1 ∷ nextWords
+  pub head : take nextHead R ≡ ruleHead (lines R)
   pub short : lines R ≤ linesWritten (signals M₁) (nodes M₁ + nodes M₂)
   pub accepted : ruleRefusal lent R ≡ 0
   pub over₁ : T (overSignals lent (signals M₁) R)

@@ -5,7 +5,7 @@ use mathlib.Core.List.{List, [], _∷_, _++_}
 use lib.ListN.{length, getD, take}
 use Rattle.truth.specs.Passed.{signalsMost, lineWords, signalOperation, negationOperation, eitherOperation, somePathOperation}
 use Rattle.comparison.specs.Sizes.{writtenSpace}
-use Rattle.comparison.specs.Comparison.{nextWords}
+use Rattle.comparison.specs.Comparison.{nextWords, ruleHead}
 
 -- signal i; not line j; line i or line j; some next node has line j
 pub data Entry : Type 0 where
@@ -26,15 +26,10 @@ unfolding words
 writtenWords [] = []
 writtenWords (l ∷ ls) = words l ++ writtenWords ls
 
--- the words before the lines
-unfoldable pub head : ℕ → List ℕ
-unfolding nextWords
-head l = 1 ∷ 4 ∷ 5 ∷ l ∷ 1 ∷ 1 ∷ nextWords
-
 -- the rule sheet of a list of lines
 unfoldable pub sheet : List Entry → List ℕ
-unfolding head writtenWords
-sheet ls = head (length ls) ++ writtenWords ls
+unfolding nextWords writtenWords
+sheet ls = ruleHead (length ls) ++ writtenWords ls
 
 -- line j of the list; lines count from 1
 unfoldable pub entry : List Entry → ℕ → Entry

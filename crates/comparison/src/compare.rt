@@ -11,7 +11,7 @@ ghost use Rattle.truth.specs.Passed as Passed;
 ghost use Rattle.truth.specs.Rows.{rowHas, rowsHas};
 ghost use Rattle.comparison.specs.Sizes.{writtenSpace, writtenMost, blockPlaces};
 ghost use Rattle.comparison.specs.Comparison as Comparison;
-ghost use Rattle.comparison.specs.Lines.{Entry, head, sheet, Downward, HoldsLines};
+ghost use Rattle.comparison.specs.Lines.{Entry, sheet, Downward, HoldsLines};
 ghost use Rattle.comparison.specs.Needed.{Listed, Shortened};
 ghost use Rattle.comparison.specs.Sides.{OneSided};
 ghost use Rattle.comparison.specs.CompareAnswers.{comparisonQuestions, CompareAnswer};
@@ -164,7 +164,7 @@ fn copy(space: &mut [u16], at: usize, words: &[u16], n: usize)
 // The words before the lines, for a rule of n lines.
 fn put_head(space: &mut [u16], n: u16)
     requires { ⌜ nextHead ≤ length (now space) ⌝ }
-    ensures { λ r. ⌜ now (space .exit) ≡ head n ++ drop nextHead (now (space .entry)) ⌝ }
+    ensures { λ r. ⌜ now (space .exit) ≡ Comparison.ruleHead n ++ drop nextHead (now (space .entry)) ⌝ }
 {
     copy(space, 0, &NEXT, sizes::NEXT_HEAD);
     space[3] = n;

@@ -1,6 +1,5 @@
 -- `put_head` meets its contract: the constant words are copied, and the number of lines is put in.
 use Rattle.comparison.specs.Comparison.{nextWords}
-use Rattle.comparison.specs.Lines.{head}
 use Rattle.comparison.proofs.PastedSheet.{head-put}
 use borrow.Author.Needs.{needs}
 use Rattle.comparison.proofs.compare.put_head.Statement.{statement}
@@ -19,7 +18,7 @@ same-length : tie.Need-same-length
 same-length c = search needs
 
 returns : tie.Need-returns
-unfolding head nextWords
+unfolding nextWords
 returns c =
     let at-start : tie.Start = search in
     let a = at-start .args in
