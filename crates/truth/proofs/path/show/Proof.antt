@@ -27,8 +27,7 @@ returns : tie.Need-returns
 returns c =
     let has = c .before in
     let solved = has .before .before .before in
-    let start = solved .before .before .before .before .before in
-    let a = start .args in
+    let start : tie.Start = search in let a = start .args in
     none-shown (a .m .now) (a .r .now) (a .next .now) (a .back .now) (a .rows .now) (a .j) (a .x) (start .pre .0) (a .exchanged) _ _ _ _ (solved .before .solve .ensures)
     (a .s) (start .pre .1 .0) (start .pre .1 .1) _ _ (has .before .load .ensures .0) (has .before .load .ensures .1) _ (has .has .ensures) (c .if1 .taken) _ _
 
@@ -43,33 +42,27 @@ cast-walk c = search needs
 
 walk-requires : tie.Need-walk-requires
 walk-requires c κs =
-    let counted = c .before .before .before .before .before in
-    let has = counted .before .before .before in
+    let counted : tie.After-nodes = search in let has = counted .before .before .before in
     let solved = has .before .before .before in
-    let start = solved .before .before .before .before .before in
-    let a = start .args in
+    let start : tie.Start = search in let a = start .args in
     walkable (a .m .now) (a .r .now) (a .next .now) (a .back .now) (a .rows .now) (a .j) (a .x) (start .pre .0) (a .exchanged) _ _ _ _ (solved .before .solve .ensures)
     (a .s) (start .pre .1 .0) (start .pre .1 .1) _ _ (has .before .load .ensures .0) (has .before .load .ensures .1) _ (has .has .ensures) (counted .before .before .if1 .left) _ _
     (counted .before .chain-length .ensures) (counted .nodes .ensures) (timed (solved .before))
 
 chain-states-requires : tie.Need-chain-states-requires
 chain-states-requires c κs =
-    let counted = c .before .before .before .before .before .before .before in
-    let has = counted .before .before .before in
+    let counted : tie.After-nodes = search in let has = counted .before .before .before in
     let solved = has .before .before .before in
-    let start = solved .before .before .before .before .before in
-    let a = start .args in
+    let start : tie.Start = search in let a = start .args in
     let few = states-few (a .m .now) (a .r .now) (a .next .now) (a .back .now) (a .rows .now) (a .j) (a .x) (start .pre .0) in
     let chained = counted .before .chain-length .ensures in
     (omega arith, chained)
 
 named-requires : tie.Need-named-requires
 named-requires c κs =
-    let counted = c .before .before .before .before .before .before .before .before in
-    let has = counted .before .before .before in
+    let counted : tie.After-nodes = search in let has = counted .before .before .before in
     let solved = has .before .before .before in
-    let start = solved .before .before .before .before .before in
-    let a = start .args in
+    let start : tie.Start = search in let a = start .args in
     let walk = c .before .before .walk in
     list-fits (a .m .now) (a .r .now) (a .next .now) (a .back .now) (a .rows .now) (a .j) (a .x) (start .pre .0) (a .exchanged) _ _ _ _ (solved .before .solve .ensures)
     (a .s) (start .pre .1 .0) (start .pre .1 .1) _ _ (has .before .load .ensures .0) (has .before .load .ensures .1) _ (has .has .ensures) (counted .before .before .if1 .left) _ _
@@ -77,12 +70,10 @@ named-requires c κs =
 
 returns-2 : tie.Need-returns-2
 returns-2 c =
-    let counted = c .before .before .before .before .before .before .before .before .before .before in
-    let has = counted .before .before .before in
+    let after-walk : tie.After-walk = search in let counted : tie.After-nodes = search in let has = counted .before .before .before in
     let solved = has .before .before .before in
-    let start = solved .before .before .before .before .before in
-    let a = start .args in
-    let walk = c .before .before .before .before .walk in
+    let start : tie.Start = search in let a = start .args in
+    let walk = after-walk .walk in
     let chain = c .before .before .chain-states in
     let named = c .before .named in
     shows-line (a .m .now) (a .r .now) (a .next .now) (a .back .now) (a .rows .now) (a .j) (a .x) (start .pre .0) (a .exchanged) _ _ _ _ (solved .before .solve .ensures)
