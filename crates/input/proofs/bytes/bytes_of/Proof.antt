@@ -44,8 +44,8 @@ loop-less c = search needs
 
 loop-again : tie.Need-loop-again Inv-loop μ-loop
 loop-again c =
-    let start = c .before .before .before .before .before .before .before .before .before .before .args in
-    let at = c .before .before .before .before .before .before .loop in
+    let at-start : tie.Start Inv-loop μ-loop = search in let at-loop : tie.At-loop Inv-loop μ-loop = search in let start = at-start .args in
+    let at = at-loop .loop in
     let put = c .before .before .put-word .ensures in
     let more = bytes-next (start .words .now) (start .bytes .now) (at .i) (omega arith) (omega arith) in
     (search needs, rw put (simp length-set (at .inv .1)), rw (put, at .inv .2) more)

@@ -12,7 +12,7 @@ returns c = text-long (c .before .before .before .args .text .now) (c .before .b
 
 returns-2 : tie.Need-returns-2
 returns-2 c =
-    let start = c .before .before .before .before .args in
+    let at-start : tie.Start = search in let start = at-start .args in
     sheet-tight (start .text .now) (start .sheet .now) (c .before .if1 .left) (c .if2 .taken)
 
 slice-aggregate-words-of-text : tie.Need-slice-aggregate-words-of-text
@@ -26,13 +26,13 @@ enum-known-answer c = search needs
 
 array-share-prefix-words : tie.Need-array-share-prefix-words
 array-share-prefix-words c =
-    let read = c .before .before .before .before .words-of-text in
+    let after-words-of-text : tie.After-words-of-text = search in let read = after-words-of-text .words-of-text in
     let got = got-words _ _ _ _ (sym (c .before .answer .given .1) ∙ read .ensures .0) (read .ensures .1) (read .kept .1 .0) in
     got .fits
 
 slice-aggregate-bytes-of : tie.Need-slice-aggregate-bytes-of
 slice-aggregate-bytes-of c =
-    let read = c .before .before .before .before .before .words-of-text in
+    let after-words-of-text : tie.After-words-of-text = search in let read = after-words-of-text .words-of-text in
     let got = got-words _ _ _ _ (sym (c .before .before .answer .given .1) ∙ read .ensures .0) (read .ensures .1) (read .kept .1 .0) in
     sym (length-take-le _ (read .last .1 .0) (got .fits))
 
@@ -47,21 +47,23 @@ same-length c = search needs
 
 returns-3 : tie.Need-returns-3
 returns-3 c =
-    let start = c .before .before .before .before .before .before .before .before .before .before .before .before .before .before .before .args in
+    let at-start : tie.Start = search in let after-words-of-text : tie.After-words-of-text = search in
+    let after-answer : tie.After-answer = search in let else1 : tie.Else1 = search in let start = at-start .args in
     let put = c .before .before .bytes-of in
-    let read = c .before .before .before .before .before .before .before .before .before .words-of-text in
-    let got = got-words _ _ _ _ (sym (c .before .before .before .before .before .before .answer .given .1) ∙ read .ensures .0) (read .ensures .1) (read .kept .1 .0) in
-    let short = c .before .before .before .before .before .before .before .before .before .before .before .before .if1 .left in
-    let roomy = c .before .before .before .before .before .before .before .before .before .before .before .if2 .left in
+    let read = after-words-of-text .words-of-text in
+    let got = got-words _ _ _ _ (sym (after-answer .answer .given .1) ∙ read .ensures .0) (read .ensures .1) (read .kept .1 .0) in
+    let short = else1 .if1 .left in
+    let roomy = after-words-of-text .before .before .if2 .left in
     bytes-done (start .text .now) (start .sheet .now) short roomy
     _ (put .result) (read .last .1 .0) _ got (read .kept .1 .0) (put .ensures .0) (put .ensures .1)
 
 returns-4 : tie.Need-returns-4
 returns-4 c =
-    let start = c .before .before .before .before .before .before .before .before .before .before .args in
-    let faulty = got-fault _ _ _ (sym (c .before .answer2 .given .1) ∙ c .before .before .before .before .words-of-text .ensures .0) in
-    let short = c .before .before .before .before .before .before .before .if1 .left in
-    text-faulty (start .text .now) (start .sheet .now) short (c .before .before .before .before .before .before .if2 .left) _ _ faulty
+    let at-start : tie.Start = search in let after-words-of-text : tie.After-words-of-text = search in let else1 : tie.Else1 = search in
+    let start = at-start .args in
+    let faulty = got-fault _ _ _ (sym (c .before .answer2 .given .1) ∙ after-words-of-text .words-of-text .ensures .0) in
+    let short = else1 .if1 .left in
+    text-faulty (start .text .now) (start .sheet .now) short (after-words-of-text .before .before .if2 .left) _ _ faulty
 
 pub bytes-of-text-spec : {M : Type 1} → statement M
 bytes-of-text-spec =

@@ -16,7 +16,7 @@ returns c = sheet-long (c .before .before .before .args .sheet .now) (c .before 
 
 returns-2 : tie.Need-returns-2
 returns-2 c =
-    let start = c .before .before .before .before .args in
+    let at-start : tie.Start = search in let start = at-start .args in
     sheet-odd (start .sheet .now) (start .text .now) (c .before .if1 .left) (c .if2 .taken)
 
 slice-aggregate-words-of : tie.Need-slice-aggregate-words-of
@@ -49,13 +49,14 @@ same-length c = search needs
 returns-3 : tie.Need-returns-3
 unfolding ofWritten
 returns-3 c =
-    let start = c .before .before .before .before .before .before .before .before .before .before .before .before .before .before .before .args in
-    let got = c .before .before .before .before .before .before .before .before .before .words-of in
-    let put = c .before .before .before .before .before .text-of-words in
-    let short = c .before .before .before .before .before .before .before .before .before .before .before .before .if1 .left in
+    let at-start : tie.Start = search in let after-words-of : tie.After-words-of = search in
+    let after-text-of-words : tie.After-text-of-words = search in let else1 : tie.Else1 = search in let start = at-start .args in
+    let got = after-words-of .words-of in
+    let put = after-text-of-words .text-of-words in
+    let short = else1 .if1 .left in
     let all = words-all (start .sheet .now) _ (got .last .1 .0) (got .result) (omega arith) (got .ensures .0) (got .ensures .1) in
     let told = rw (c .before .answer .given .1) at (put .ensures .0) in
-    text-done (start .sheet .now) (start .text .now) short (c .before .before .before .before .before .before .before .before .before .before .before .if2 .left) _ _ _ all told (put .ensures .1)
+    text-done (start .sheet .now) (start .text .now) short (after-words-of .before .before .if2 .left) _ _ _ all told (put .ensures .1)
 
 same-length-2 : tie.Need-same-length-2
 same-length-2 c = search needs
@@ -63,13 +64,14 @@ same-length-2 c = search needs
 returns-4 : tie.Need-returns-4
 unfolding ofWritten
 returns-4 c =
-    let start = c .before .before .before .before .before .before .before .before .before .before .before .before .before .before .args in
-    let got = c .before .before .before .before .before .before .before .before .words-of in
-    let put = c .before .before .before .before .text-of-words in
-    let short = c .before .before .before .before .before .before .before .before .before .before .before .if1 .left in
+    let at-start : tie.Start = search in let after-words-of : tie.After-words-of = search in
+    let after-text-of-words : tie.After-text-of-words = search in let else1 : tie.Else1 = search in let start = at-start .args in
+    let got = after-words-of .words-of in
+    let put = after-text-of-words .text-of-words in
+    let short = else1 .if1 .left in
     let all = words-all (start .sheet .now) _ (got .last .1 .0) (got .result) (omega arith) (got .ensures .0) (got .ensures .1) in
     let told = rw (c .enum-told .given .1) at (put .ensures .0) in
-    text-done (start .sheet .now) (start .text .now) short (c .before .before .before .before .before .before .before .before .before .before .if2 .left) _ _ _ all told (put .ensures .1)
+    text-done (start .sheet .now) (start .text .now) short (after-words-of .before .before .if2 .left) _ _ _ all told (put .ensures .1)
 
 pub text-of-bytes-spec : {M : Type 1} → statement M
 text-of-bytes-spec =
