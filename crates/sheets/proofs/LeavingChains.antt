@@ -1,15 +1,15 @@
 -- What is gathered of the transitions out of a state: one transition more in each field, and what each field has at the chain's end.
 use mathlib.Core.Path.{_≡_, refl, sym, _∙_, ap, subst}
 use mathlib.Core.Logic.{⊎-elim}
-use Prim.Native.Nat.{ℕ, zero, suc, _+_, _*_, _^_, _≤_, _<_}
+use Prim.Native.Nat.{ℕ, _+_, _*_, _^_, _≤_, _<_}
 use native.Mathlib.Omega.{arith}
 use mathlib.Core.List.{List, [], _∷_, map}
 use mathlib.Core.Bool.{Bool, true, false, not, _&&_, _||_, and-true, and-false, or-false}
-use borrow.Author.Tests.{lt-ltb, le-leb, eq-eqb}
+use borrow.Author.Tests.{lt-ltb, eq-eqb}
 use lib.ListN.{length, getD, take}
 use lib.Seq.{length-take-le, getD-take}
-use lib.Bits.{bitAnd, bitOr, or-lt, or-add-and, and-le-l, and-le-r}
-use lib.Dec.{T, leb, ltb, eqb, eqb→eq, ltb→lt, lt→ltb}
+use lib.Bits.{bitAnd, bitOr}
+use lib.Dec.{T, leb, ltb, eqb, eqb→eq, ltb→lt}
 use Rattle.sheets.specs.Format.{transitionWords, firstTransitionPlace, transitionsFrom}
 use Rattle.sheets.specs.Words.{bit, indicator, howMany, allOf, anyOf, member}
 use Rattle.sheets.specs.Positions.{someBelow, standsAt}
@@ -25,6 +25,7 @@ use Rattle.sheets.proofs.BitLaws.{bit-or, bit-and, bit-none}
 use Rattle.sheets.proofs.Positions.{same-tests, place-in, place-of, some-at, some-in, some-same}
 use Rattle.sheets.proofs.Records.{rest}
 use Rattle.sheets.proofs.GatheredChains.{along-keeps, any-along, all-along}
+use Rattle.sheets.proofs.TestedLists.{all-both, any-guarded, any-none, one-more, or-below, pow-pos, some-false, two-more}
 
 -- ---- a mask more at the positions of a set
 
@@ -76,65 +77,6 @@ module _ (a : Leaving) {s : Step} {x t m y : ℕ} (e : s ≡ Record x t m y) whe
           twice = λ w. bit-or (a .twice) (bitAnd (a .once) m) w ∙ ap (λ b. bit (a .twice) w || b) (bit-and (a .once) m w);
           fits = rw (on, twice);
         })
-
--- ---- tests of a list, and of positions
-
-or-below : (k a b : ℕ) → ltb (bitOr a b) (2 ^ k) ≡ (ltb a (2 ^ k) && ltb b (2 ^ k))
-or-below k a b =
-    same-tests (ltb (bitOr a b) (2 ^ k)) (ltb a (2 ^ k) && ltb b (2 ^ k))
-    (λ t. let h = ltb→lt (bitOr a b) (2 ^ k) t in
-    and-both (ltb a (2 ^ k)) (ltb b (2 ^ k)) (lt→ltb a (2 ^ k) (omega (arith, or-add-and a b, and-le-r a b))) (lt→ltb b (2 ^ k) (omega (arith, or-add-and a b, and-le-l a b))))
-    (λ t. lt→ltb (bitOr a b) (2 ^ k) (or-lt k a b (ltb→lt a (2 ^ k) (and-left (ltb a (2 ^ k)) (ltb b (2 ^ k)) t)) (ltb→lt b (2 ^ k) (and-right (ltb a (2 ^ k)) (ltb b (2 ^ k)) t))))
-
-pow-pos : (k : ℕ) → 0 < 2 ^ k
-pow-pos zero = omega arith
-pow-pos (suc k) = omega (arith, pow-pos k)
-
--- at least one, and at least two, where one more may be counted
-one-more : (n : ℕ) (b : Bool) → (leb 1 n || b) ≡ leb 1 (n + indicator b)
-unfolding indicator
-one-more n false = let e : n + 0 ≡ n = omega arith in rw e (or-false (leb 1 n))
-one-more zero true = refl
-one-more (suc n) true = rw (le-leb 1 (suc n) (omega arith), le-leb 1 (suc n + 1) (omega arith))
-
-two-more : (n : ℕ) (b : Bool) → (leb 2 n || (leb 1 n && b)) ≡ leb 2 (n + indicator b)
-unfolding indicator
-two-more n false = let e : n + 0 ≡ n = omega arith in rw (e, and-false (leb 1 n)) (or-false (leb 2 n))
-two-more zero true = refl
-two-more (suc zero) true = refl
-two-more (suc (suc n)) true = rw (le-leb 2 (suc (suc n)) (omega arith), le-leb 2 (suc (suc n) + 1) (omega arith))
-
-any-none : (ys : List ℕ) (p : ℕ → Bool) → ((y : ℕ) → p y ≡ false) → anyOf ys p ≡ false
-unfolding anyOf
-any-none [] p h = refl
-any-none (y ∷ ys) p h = rw (h y) (any-none ys p h)
-
-some-false : (n : ℕ) (p : ℕ → Bool) → ((k : ℕ) → p k ≡ false) → someBelow n p ≡ false
-unfolding someBelow
-some-false zero p h = refl
-some-false (suc n) p h = rw (some-false n p h) (h n)
-
--- a condition that is the same of each element
-any-guarded : (g : Bool) (p q : ℕ → Bool) (ys : List ℕ) → anyOf ys (λ y. p y && (g && q y)) ≡ (g && anyOf ys (λ y. p y && q y))
-any-guarded true p q ys = refl
-any-guarded false p q ys = any-none ys (λ y. p y && false) (λ y. and-false (p y))
-
-exchange : (p q a b : Bool) → ((q && b) && (p && a)) ≡ ((p && q) && (a && b))
-exchange false false a b = refl
-exchange false true a b = and-false b
-exchange true false a b = refl
-exchange true true false b = and-false b
-exchange true true true b = and-true b
-
--- two tests of each element
-all-both : (p q r : ℕ → Bool) → ((y : ℕ) → q y ≡ r y) → (ys : List ℕ) → (allOf ys q && allOf ys p) ≡ allOf ys (λ y. p y && r y)
-unfolding allOf
-all-both p q r h [] = refl
-all-both p q r h (y ∷ ys) = exchange (p y) (q y) (allOf ys p) (allOf ys q) ∙ rw (h y) (ap (λ z. (p y && r y) && z) (swap (allOf ys p) (allOf ys q) ∙ all-both p q r h ys))
-  where
-    swap : (a b : Bool) → (a && b) ≡ (b && a)
-    swap true b = sym (and-true b)
-    swap false b = sym (and-false b)
 
 module _ (states : List ℕ) (n : ℕ) (few : n ≤ 16) where
   -- t stands at some position

@@ -14,8 +14,7 @@ compare-refusal-requires c κs = search needs
 
 returns : tie.Need-returns
 returns c =
-    let at-start : tie.Start = search in
-    let a = at-start .args in
+    let at-start : tie.Start = search in let a = at-start .args in
     let r = c .before .before .compare-refusal in
     refused (a .m1 .now) (a .m2 .now) (a .space .now) _ _ (r .ensures .0) (r .ensures .1) (c .if1 .taken)
 
@@ -45,8 +44,7 @@ one-sided-requires c κs =
 
 returns-2 : tie.Need-returns-2
 returns-2 c =
-    let after-refine : tie.After-refine = search in
-    let a = start (after-refine .before) .args in
+    let after-refine : tie.After-refine = search in let a = start (after-refine .before) .args in
     let e = sym (after-refine .before .if1 .left) ∙ after-refine .before .before .before .compare-refusal .ensures .0 in
     let r = after-refine .refine in
     let s = c .before .one-sided in
@@ -63,8 +61,7 @@ mul-line c = search needs
 
 element-copy-out-line : tie.Need-element-copy-out-line
 element-copy-out-line c =
-    let after-refine : tie.After-refine = search in
-    let a = start (after-refine .before) .args in
+    let after-refine : tie.After-refine = search in let a = start (after-refine .before) .args in
     let e = sym (after-refine .before .if1 .left) ∙ after-refine .before .before .before .compare-refusal .ensures .0 in
     let r = after-refine .refine in
     let f = fits (a .m1 .now) (a .m2 .now) (a .space .now) e (r .result) (r .ensures) in
@@ -72,8 +69,7 @@ element-copy-out-line c =
 
 write-not-requires : tie.Need-write-not-requires
 write-not-requires c κs =
-    let after-refine : tie.After-refine = search in
-    let a = start (after-refine .before) .args in
+    let after-refine : tie.After-refine = search in let a = start (after-refine .before) .args in
     let e = sym (after-refine .before .if1 .left) ∙ after-refine .before .before .before .compare-refusal .ensures .0 in
     let r = after-refine .refine in
     let f = fits (a .m1 .now) (a .m2 .now) (a .space .now) e (r .result) (r .ensures) in
@@ -81,8 +77,7 @@ write-not-requires c κs =
 
 add-put-sheet : tie.Need-add-put-sheet
 add-put-sheet c =
-    let after-refine : tie.After-refine = search in
-    let a = start (after-refine .before) .args in
+    let after-refine : tie.After-refine = search in let a = start (after-refine .before) .args in
     let e = sym (after-refine .before .if1 .left) ∙ after-refine .before .before .before .compare-refusal .ensures .0 in
     let r = after-refine .refine in
     let f = fits (a .m1 .now) (a .m2 .now) (a .space .now) e (r .result) (r .ensures) in
@@ -90,9 +85,7 @@ add-put-sheet c =
 
 put-sheet-requires : tie.Need-put-sheet-requires
 put-sheet-requires c κs =
-    let after-refine : tie.After-refine = search in
-    let else2 : tie.Else2 = search in
-    let a = start (after-refine .before) .args in
+    let after-refine : tie.After-refine = search in let else2 : tie.Else2 = search in let a = start (after-refine .before) .args in
     let e = sym (after-refine .before .if1 .left) ∙ after-refine .before .before .before .compare-refusal .ensures .0 in
     let r = after-refine .refine in
     let s = else2 .before .one-sided in
@@ -104,9 +97,7 @@ same-length c = search needs
 
 returns-3 : tie.Need-returns-3
 returns-3 c =
-    let after-refine : tie.After-refine = search in
-    let else2 : tie.Else2 = search in
-    let after-write-not : tie.After-write-not = search in
+    let after-refine : tie.After-refine = search in let else2 : tie.Else2 = search in let after-write-not : tie.After-write-not = search in
     let a = start (after-refine .before) .args in
     let e = sym (after-refine .before .if1 .left) ∙ after-refine .before .before .before .compare-refusal .ensures .0 in
     let r = after-refine .refine in

@@ -36,9 +36,7 @@ add-c c = search needs
 
 returns : tie.Need-returns Inv-loop μ-loop
 returns c =
-    let at-loop : tie.At-loop Inv-loop μ-loop = search in
-    let start : tie.Start Inv-loop μ-loop = search in
-    let a = start .args in
+    let at-loop : tie.At-loop Inv-loop μ-loop = search in let start : tie.Start Inv-loop μ-loop = search in let a = start .args in
     let one = at-loop .before .before .start-row in
     let two = at-loop .before .start-row2 in
     let at = at-loop .loop in
@@ -49,9 +47,7 @@ loop-less c = search needs
 
 loop-again : tie.Need-loop-again Inv-loop μ-loop
 loop-again c =
-    let at-loop : tie.At-loop Inv-loop μ-loop = search in
-    let start : tie.Start Inv-loop μ-loop = search in
-    let a = start .args in
+    let at-loop : tie.At-loop Inv-loop μ-loop = search in let start : tie.Start Inv-loop μ-loop = search in let a = start .args in
     let one = at-loop .before .before .start-row in
     let two = at-loop .before .start-row2 in
     let at = at-loop .loop in
@@ -59,8 +55,7 @@ loop-again c =
 
 returns-2 : tie.Need-returns-2 Inv-loop μ-loop
 returns-2 c =
-    let at-start : tie.Start Inv-loop μ-loop = search in
-    let a = at-start .args in
+    let at-start : tie.Start Inv-loop μ-loop = search in let a = at-start .args in
     side-none (a .m1 .now) (a .m2 .now) (rowsHas (a .first .now)) (rowsHas (a .second .now)) (a .count) (c .before .loop .c) (omega arith) (c .before .loop .inv .1)
 
 pub one-sided-spec : {M : Type 1} → statement M

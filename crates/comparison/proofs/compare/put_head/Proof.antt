@@ -20,8 +20,7 @@ same-length c = search needs
 returns : tie.Need-returns
 unfolding nextWords
 returns c =
-    let at-start : tie.Start = search in
-    let a = at-start .args in
+    let at-start : tie.Start = search in let a = at-start .args in
     head-put (a .space .now) _ (a .n) (c .before .before .copy .ensures)
 
 pub put-head-spec : {M : Type 1} → statement M

@@ -18,8 +18,7 @@ same-length c = search needs
 
 returns : tie.Need-returns
 returns c =
-    let after-put-head : tie.After-put-head = search in
-    let start : tie.Start = search in
+    let after-put-head : tie.After-put-head = search in let start : tie.Start = search in
     let got = after-put-head .before .before .shorten in
     let x = start .args in
     λ a ls down holds len.

@@ -50,10 +50,8 @@ loop-less c = search needs
 
 loop-again : tie.Need-loop-again Inv-loop μ-loop
 loop-again c =
-    let at-loop : tie.At-loop Inv-loop μ-loop = search in
-    let then1 : tie.Then1 Inv-loop μ-loop = search in
-    let after-renumbered : tie.After-renumbered Inv-loop μ-loop = search in
-    let x = at-loop .before .args in
+    let at-loop : tie.At-loop Inv-loop μ-loop = search in let then1 : tie.Then1 Inv-loop μ-loop = search in
+    let after-renumbered : tie.After-renumbered Inv-loop μ-loop = search in let x = at-loop .before .args in
     let at = at-loop .loop in
     let wrote = c .before .before .write-line in
     let was = then1 .before .get .ensures in
@@ -75,8 +73,7 @@ loop-less-2 c = search needs
 
 loop-again-2 : tie.Need-loop-again-2 Inv-loop μ-loop
 loop-again-2 c =
-    let at-start : tie.Start Inv-loop μ-loop = search in
-    let x = at-start .args in
+    let at-start : tie.Start Inv-loop μ-loop = search in let x = at-start .args in
     let at = c .before .before .before .loop in (
       search needs,
       search needs,

@@ -49,10 +49,8 @@ loop-less c = search needs
 
 loop-again : tie.Need-loop-again Inv-loop μ-loop
 loop-again c =
-    let at-start : tie.Start Inv-loop μ-loop = search in
-    let at-loop : tie.At-loop Inv-loop μ-loop = search in
-    let after-get : tie.After-get Inv-loop μ-loop = search in
-    let x = at-start .args in
+    let at-start : tie.Start Inv-loop μ-loop = search in let at-loop : tie.At-loop Inv-loop μ-loop = search in
+    let after-get : tie.After-get Inv-loop μ-loop = search in let x = at-start .args in
     let at = at-loop .loop in
     let was = after-get .get .ensures in
     let need = c .before .before .before .if1 .taken in
@@ -69,9 +67,7 @@ loop-less-2 c = search needs
 
 loop-again-2 : tie.Need-loop-again-2 Inv-loop μ-loop
 loop-again-2 c =
-    let at-start : tie.Start Inv-loop μ-loop = search in
-    let at-loop : tie.At-loop Inv-loop μ-loop = search in
-    let x = at-start .args in
+    let at-start : tie.Start Inv-loop μ-loop = search in let at-loop : tie.At-loop Inv-loop μ-loop = search in let x = at-start .args in
     let at = at-loop .loop in
     let n = at .i - 1 in (
       search needs,

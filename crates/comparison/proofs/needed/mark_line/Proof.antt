@@ -55,8 +55,7 @@ returns-2 c = let after-line : tie.After-line = search in rw (after-line .line .
 returns-3 : tie.Need-returns-3
 unfolding marks
 returns-3 c =
-    let after-line2 : tie.After-line2 = search in
-    let after-get2 : tie.After-get2 = search in
+    let after-line2 : tie.After-line2 = search in let after-get2 : tie.After-get2 = search in
     rw (after-line2 .line2 .given .1, ← after-get2 .get2 .ensures, ← c .before .get3 .ensures) (c .put3 .ensures .1 ∙ ap (λ (l : List ℕ). set l (c .before .get3 .result) 1) (c .before .before .before .put2 .ensures .1))
 
 returns-4 : tie.Need-returns-4

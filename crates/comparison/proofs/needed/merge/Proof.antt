@@ -43,8 +43,7 @@ loop-less c = search needs
 
 loop-again : tie.Need-loop-again Inv-loop μ-loop
 loop-again c =
-    let after-line-at : tie.After-line-at Inv-loop μ-loop = search in
-    let at = after-line-at .before .before .loop in
+    let after-line-at : tie.After-line-at Inv-loop μ-loop = search in let at = after-line-at .before .before .loop in
     let e : at .i + 1 - 1 ≡ at .i = omega arith in
     let got = c .merge-line .ensures in (
       search needs,

@@ -69,9 +69,7 @@ returns c =
 
 returns-2 : tie.Need-returns-2
 returns-2 c =
-    let after-line : tie.After-line = search in
-    let after-get : tie.After-get = search in
-    let x = after-line .before .before .args in
+    let after-line : tie.After-line = search in let after-get : tie.After-get = search in let x = after-line .before .before .args in
     let got = c .before .before .opposite in (
       c .put2 .ensures .0,
       kept-length (x .other .now) _ _ _ _ (search needs) (got .ensures),
@@ -83,8 +81,7 @@ returns-2 c =
 
 returns-3 : tie.Need-returns-3
 returns-3 c =
-    let after-line2 : tie.After-line2 = search in
-    let after-get2 : tie.After-get2 = search in
+    let after-line2 : tie.After-line2 = search in let after-get2 : tie.After-get2 = search in
     let after-either : tie.After-either = search in
     let x = after-line2 .before .before .args in (
       c .before .before .put3 .ensures .0,
@@ -97,9 +94,7 @@ returns-3 c =
 
 returns-4 : tie.Need-returns-4
 returns-4 c =
-    let after-line3 : tie.After-line3 = search in
-    let after-get4 : tie.After-get4 = search in
-    let x = after-line3 .before .before .args in
+    let after-line3 : tie.After-line3 = search in let after-get4 : tie.After-get4 = search in let x = after-line3 .before .before .args in
     let got = c .before .before .next-line in (
       c .put4 .ensures .0,
       search needs,

@@ -20,9 +20,7 @@ get-requires c κs = search needs
 
 mark-requires : tie.Need-mark-requires
 mark-requires c κs =
-    let after-merge : tie.After-merge = search in
-    let start : tie.Start = search in
-    let got = after-merge .merge in
+    let after-merge : tie.After-merge = search in let start : tie.Start = search in let got = after-merge .merge in
     let p = start .pre .2 in
     let n = start .args .n in
     let count = p .count in
@@ -34,9 +32,7 @@ mark-requires c κs =
 
 copy-needed-requires : tie.Need-copy-needed-requires
 copy-needed-requires c κs =
-    let after-get : tie.After-get = search in
-    let start : tie.Start = search in
-    let got = after-get .before .before .merge in
+    let after-get : tie.After-get = search in let start : tie.Start = search in let got = after-get .before .before .merge in
     let p = start .pre .2 in
     let n = start .args .n in
     let count = p .count in
@@ -47,9 +43,7 @@ copy-needed-requires c κs =
 
 returns : tie.Need-returns
 returns c =
-    let after-get : tie.After-get = search in
-    let after-mark : tie.After-mark = search in
-    let start : tie.Start = search in
+    let after-get : tie.After-get = search in let after-mark : tie.After-mark = search in let start : tie.Start = search in
     let got = after-get .before .before .merge in
     let same = got .last .1 .1 .0 in
     let p = start .pre .2 in

@@ -39,8 +39,7 @@ start c = search
 
 returns : tie.Need-returns
 returns c =
-    let after-leading2 : tie.After-leading2 = search in
-    let after-load3 = after-leading2 .before .before .before in
+    let after-leading2 : tie.After-leading2 = search in let after-load3 = after-leading2 .before .before .before in
     let after-load2 = after-load3 .before .before .before in
     let a = start after-load2 .args in
     let l = after-load2 .before .before .load in

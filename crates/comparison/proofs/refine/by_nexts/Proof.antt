@@ -24,16 +24,14 @@ turn-requires c κs = let at-loop : tie.At-loop Inv-loop μ-loop = search in let
 returns : tie.Need-returns Inv-loop μ-loop
 returns c =
     let t = c .before .before .turn in
-    let at : tie.At-loop Inv-loop μ-loop = search in
-    let l = t .last in
+    let at : tie.At-loop Inv-loop μ-loop = search in let l = t .last in
     settled-end _ _ (state (at .loop .first) (at .loop .second) (at .loop .line) (at .loop .words) (at .loop .so-far))
     (state (l .1 .1 .0) (l .1 .1 .1 .0) (l .1 .1 .1 .1 .0) (l .1 .1 .1 .1 .1 .0) (t .result)) (t .ensures) (at .loop .inv .0) (c .if1 .taken)
 
 loop-less : tie.Need-loop-less Inv-loop μ-loop
 loop-less c =
     let t = c .before .before .turn in
-    let at : tie.At-loop Inv-loop μ-loop = search in
-    let l = t .last in
+    let at : tie.At-loop Inv-loop μ-loop = search in let l = t .last in
     turns-fewer _ _ (state (at .loop .first) (at .loop .second) (at .loop .line) (at .loop .words) (at .loop .so-far))
     (state (l .1 .1 .0) (l .1 .1 .1 .0) (l .1 .1 .1 .1 .0) (l .1 .1 .1 .1 .1 .0) (t .result)) (t .ensures) (c .if1 .left)
 

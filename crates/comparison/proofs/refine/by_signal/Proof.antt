@@ -48,8 +48,7 @@ divide-requires c κs =
 returns : tie.Need-returns
 unfolding kripke
 returns c =
-    let found : tie.After-next-split = search in
-    let a = start found .args in
+    let found : tie.After-next-split = search in let a = start found .args in
     let l = c .divide .last in
     divided-rows (a .m1 .now) (a .m2 .now) (entry (start found)) (start found .pre .0) (kripke (a .m1 .now) .signal (a .i)) (kripke (a .m2 .now) .signal (a .i)) _ _
     (row₂ found .before .signal-row .ensures) (row₂ found .signal-row2 .ensures) (state (l .0) (l .1 .0) (l .1 .1 .0) (l .1 .1 .1 .0) (c .divide .result))

@@ -26,8 +26,7 @@ add-i c = search needs
 
 by-signal-requires : tie.Need-by-signal-requires Inv-loop μ-loop
 by-signal-requires c κs =
-    let turn : tie.In-loop Inv-loop μ-loop = search in
-    let at = turn .before in
+    let turn : tie.In-loop Inv-loop μ-loop = search in let at = turn .before in
     (at .loop .inv .1 .staged, omega arith, omega (arith, turn .loop-test .taken, at .before .signals .ensures))
 
 loop-less : tie.Need-loop-less Inv-loop μ-loop
@@ -42,8 +41,7 @@ loop-again c =
 
 returns : tie.Need-returns Inv-loop μ-loop
 returns c =
-    let at-start : tie.Start Inv-loop μ-loop = search in
-    let at = c .before in
+    let at-start : tie.Start Inv-loop μ-loop = search in let at = c .before in
     let e : at .loop .i ≡ signals (at-start .args .m1 .now) =
     omega (arith, at .before .signals .ensures, c .loop-test .left, at .loop .inv .0) in
     signals-all _ _ _ _ e (at .loop .inv .1)

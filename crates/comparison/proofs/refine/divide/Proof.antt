@@ -56,8 +56,7 @@ loop-less c = omega (arith, c .next-split .ensures [] [] .low)
 loop-again : tie.Need-loop-again Inv-loop μ-loop
 loop-again c M₁ M₂ s =
     let split = c .before .before .before in
-    let turn : tie.In-loop Inv-loop μ-loop = search in
-    let start = turn .before .before in
+    let turn : tie.In-loop Inv-loop μ-loop = search in let start = turn .before .before in
     let a = start .args in
     let l = split .split-block .last in
     let later = state (l .0) (l .1 .0) (l .1 .1 .0) (l .1 .1 .1 .0) (split .split-block .result) in

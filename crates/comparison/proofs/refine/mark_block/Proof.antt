@@ -27,8 +27,7 @@ mark-row-requires-2 c κs = search needs
 
 returns : tie.Need-returns
 returns c =
-    let after-load : tie.After-load = search in
-    let a = after-load .before .before .args in
+    let after-load : tie.After-load = search in let a = after-load .before .before .args in
     let l = after-load .load in
     let k = c .before .load2 in (
       marked-as (rowHas (l .result)) (rowsHas (a .first .now) (a .c)) _ _ _ (λ s. loaded (a .first .now) (l .result) (a .c) (a .c) s (l .ensures) refl) (c .before .before .before .mark-row .ensures),

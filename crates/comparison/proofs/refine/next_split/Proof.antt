@@ -40,8 +40,7 @@ loop-less c = search needs
 
 loop-again : tie.Need-loop-again Inv-loop μ-loop
 loop-again c =
-    let at-start : tie.Start Inv-loop μ-loop = search in
-    let at = c .before .before .before .loop in
+    let at-start : tie.Start Inv-loop μ-loop = search in let at = c .before .before .before .loop in
     let a = at-start .args in (
       omega arith,
       omega arith,

@@ -59,8 +59,7 @@ few c =
 tells : (c : tie.After-splitter Inv-loop μ-loop) → let at : tie.At-loop Inv-loop μ-loop = search in let a = start at .args in
     TellsMark (a .m1 .now) (a .m2 .now) (firstOf (present at)) (secondOf (present at)) (at .loop .mark1) (at .loop .mark2) (at .loop .c) (c .splitter .result)
 tells c =
-    let at-loop : tie.At-loop Inv-loop μ-loop = search in
-    let after-load : tie.After-load Inv-loop μ-loop = search in
+    let at-loop : tie.At-loop Inv-loop μ-loop = search in let after-load : tie.After-load Inv-loop μ-loop = search in
     let at = at-loop .loop in
     let l = after-load .load in
     let k = c .before .before .before .load2 in
@@ -69,19 +68,15 @@ tells c =
 
 mark : (c : tie.After-splitter Inv-loop μ-loop) → c .splitter .result ≢ 0 → (1 ≤ c .splitter .result) × (c .splitter .result ≤ nodesMost)
 mark c n =
-    let then1 : tie.Then1 Inv-loop μ-loop = search in
-    let at : tie.At-loop Inv-loop μ-loop = search in
-    let s = start at in
+    let then1 : tie.Then1 Inv-loop μ-loop = search in let at : tie.At-loop Inv-loop μ-loop = search in let s = start at in
     let a = s .args in
     let m = mark-in (a .m1 .now) (a .m2 .now) (entry s) (present at) (at .loop .mark1) (at .loop .mark2) (rowHas (at .loop .all)) (at .loop .c) (at .loop .inv .4) (then1 .if1 .taken) (c .splitter .result) (tells c) n in
     (m .0, m .2)
 
 room : (w : tie.After-write-next Inv-loop μ-loop) → let at-loop : tie.At-loop Inv-loop μ-loop = search in Room (written (present at-loop) (w .write-next .last .0)) (at-loop .loop .c)
 room w =
-    let then1 : tie.Then1 Inv-loop μ-loop = search in
-    let c : tie.After-splitter Inv-loop μ-loop = search in
-    let at : tie.At-loop Inv-loop μ-loop = search in
-    let s = start at in
+    let then1 : tie.Then1 Inv-loop μ-loop = search in let c : tie.After-splitter Inv-loop μ-loop = search in
+    let at : tie.At-loop Inv-loop μ-loop = search in let s = start at in
     let a = s .args in
     turning-room (a .m1 .now) (a .m2 .now) (entry s) (present at) (at .loop .mark1) (at .loop .mark2) (rowHas (at .loop .all)) (at .loop .c) (at .loop .inv .4) (then1 .if1 .taken) (c .splitter .result) (tells c) (w .before .before .before .if2 .left) (w .write-next .last .0) (w .write-next .ensures)
 
@@ -119,9 +114,7 @@ load-requires-2 c κs = let at-loop : tie.At-loop Inv-loop μ-loop = search in o
 
 splitter-requires : tie.Need-splitter-requires Inv-loop μ-loop
 splitter-requires c κs =
-    let after-load : tie.After-load Inv-loop μ-loop = search in
-    let at : tie.At-loop Inv-loop μ-loop = search in
-    let s = start at in
+    let after-load : tie.After-load Inv-loop μ-loop = search in let at : tie.At-loop Inv-loop μ-loop = search in let s = start at in
     let l = after-load .load in
     let k = c .before .before .load2 in
     let in-all = marks-in (s .args .m1 .now) (s .args .m2 .now) (entry s) (present at) (at .loop .mark1) (at .loop .mark2) (rowHas (at .loop .all)) (at .loop .c) (at .loop .inv .4)
@@ -137,10 +130,8 @@ loop-less c = let then1 : tie.Then1 Inv-loop μ-loop = search in omega (arith, f
 
 loop-again : tie.Need-loop-again Inv-loop μ-loop
 loop-again t =
-    let then1 : tie.Then1 Inv-loop μ-loop = search in
-    let c = t .before in
-    let at : tie.At-loop Inv-loop μ-loop = search in
-    let s = start at in
+    let then1 : tie.Then1 Inv-loop μ-loop = search in let c = t .before in
+    let at : tie.At-loop Inv-loop μ-loop = search in let s = start at in
     let a = s .args in
     (at .loop .inv .0, at .loop .inv .1, at .loop .inv .2, at .loop .inv .3, turning-on (a .m1 .now) (a .m2 .now) (entry s) (present at) (at .loop .mark1) (at .loop .mark2) (rowHas (at .loop .all)) (at .loop .c) (at .loop .inv .4) (then1 .if1 .taken) (c .splitter .result) (tells c) (t .if2 .taken))
 
@@ -168,10 +159,8 @@ sub-by-next c = let else2 : tie.Else2 Inv-loop μ-loop = search in omega (arith,
 
 by-next-requires : tie.Need-by-next-requires Inv-loop μ-loop
 by-next-requires c κs =
-    let at-loop : tie.At-loop Inv-loop μ-loop = search in
-    let else2 : tie.Else2 Inv-loop μ-loop = search in
-    let after-write-next : tie.After-write-next Inv-loop μ-loop = search in
-    let at = at-loop .loop in
+    let at-loop : tie.At-loop Inv-loop μ-loop = search in let else2 : tie.Else2 Inv-loop μ-loop = search in
+    let after-write-next : tie.After-write-next Inv-loop μ-loop = search in let at = at-loop .loop in
     (omega (arith, mark (else2 .before) (else2 .if2 .left)), room after-write-next, at .inv .0, at .inv .1)
 
 sub-mark-block : tie.Need-sub-mark-block Inv-loop μ-loop
@@ -180,8 +169,7 @@ sub-mark-block c = let after-by-next : tie.After-by-next Inv-loop μ-loop = sear
 mark-block-requires : tie.Need-mark-block-requires Inv-loop μ-loop
 mark-block-requires c κs =
     let after-by-next : tie.After-by-next Inv-loop μ-loop = search in
-    let after-write-next : tie.After-write-next Inv-loop μ-loop = search in
-    let at = head (answer after-write-next) .loop in
+    let after-write-next : tie.After-write-next Inv-loop μ-loop = search in let at = head (answer after-write-next) .loop in
     (omega (arith, after-by-next .by-next .ensures .count, room after-write-next .count), at .inv .2, at .inv .3)
 
 with-requires : tie.Need-with-requires Inv-loop μ-loop
@@ -195,8 +183,7 @@ loop-less-2 c =
 
 loop-again-2 : tie.Need-loop-again-2 Inv-loop μ-loop
 loop-again-2 l =
-    let after-by-next : tie.After-by-next Inv-loop μ-loop = search in
-    let w : tie.After-write-next Inv-loop μ-loop = search in
+    let after-by-next : tie.After-by-next Inv-loop μ-loop = search in let w : tie.After-write-next Inv-loop μ-loop = search in
     let c = answer w in
     let at = head c in
     let s = start at in

@@ -28,8 +28,7 @@ first-requires c κs = search needs
 
 returns : tie.Need-returns Inv-loop μ-loop
 returns c =
-    let at-start : tie.Start Inv-loop μ-loop = search in
-    let a = at-start .args in
+    let at-start : tie.Start Inv-loop μ-loop = search in let a = at-start .args in
     sorted-leading (leadsInto (a .m .now) (rowHas (a .into))) _ _ _ (c .before .before .loop .inv) (none-left _ _ (c .before .first .ensures) (c .if1 .taken))
 
 without-requires : tie.Need-without-requires Inv-loop μ-loop
@@ -43,16 +42,14 @@ with-requires c κs = search needs
 
 loop-less : tie.Need-loop-less Inv-loop μ-loop
 loop-less c =
-    let else1 : tie.Else1 Inv-loop μ-loop = search in
-    let n = else1 .if1 .left in
+    let else1 : tie.Else1 Inv-loop μ-loop = search in let n = else1 .if1 .left in
     let f = else1 .before .first .ensures in
     let r = one-within _ _ _ f n in
     left-falls _ _ _ (c .before .before .before .without .ensures) (r .0) (r .1) (one-left _ _ f n)
 
 loop-again : tie.Need-loop-again Inv-loop μ-loop
 loop-again c =
-    let else1 : tie.Else1 Inv-loop μ-loop = search in
-    let n = else1 .if1 .left in
+    let else1 : tie.Else1 Inv-loop μ-loop = search in let n = else1 .if1 .left in
     let f = else1 .before .first .ensures in
     let r = one-within _ _ _ f n in
     let is = sym (c .before .before .leads-into .ensures) ∙ c .before .if2 .taken in
@@ -60,16 +57,14 @@ loop-again c =
 
 loop-less-2 : tie.Need-loop-less-2 Inv-loop μ-loop
 loop-less-2 c =
-    let after-first : tie.After-first Inv-loop μ-loop = search in
-    let n = c .before .before .before .if1 .left in
+    let after-first : tie.After-first Inv-loop μ-loop = search in let n = c .before .before .before .if1 .left in
     let f = after-first .first .ensures in
     let r = one-within _ _ _ f n in
     left-falls _ _ _ (c .before .before .without .ensures) (r .0) (r .1) (one-left _ _ f n)
 
 loop-again-2 : tie.Need-loop-again-2 Inv-loop μ-loop
 loop-again-2 c =
-    let after-first : tie.After-first Inv-loop μ-loop = search in
-    let n = c .before .before .before .if1 .left in
+    let after-first : tie.After-first Inv-loop μ-loop = search in let n = c .before .before .before .if1 .left in
     let f = after-first .first .ensures in
     let is = sym (c .before .leads-into .ensures) ∙ c .if2 .left in
     sorted-yes _ _ _ _ _ _ (after-first .before .loop .inv) (one-left _ _ f n) (c .before .before .without .ensures) (rw is tt)

@@ -38,8 +38,7 @@ loop-less c = search needs
 
 loop-again : tie.Need-loop-again Inv-loop μ-loop
 loop-again c =
-    let at-loop : tie.At-loop Inv-loop μ-loop = search in
-    let a = at-loop .before .args in
+    let at-loop : tie.At-loop Inv-loop μ-loop = search in let a = at-loop .before .args in
     let at = at-loop .loop in
     let l = c .before .before .load in (
       c .mark-row .ensures .size,

@@ -28,8 +28,7 @@ returns c = liked-end _ _ _ _ _ (c .before .before .loop .inv) (none-left _ _ (c
 marks-into-requires : tie.Need-marks-into-requires Inv-loop μ-loop
 unfolding MarksIn
 marks-into-requires c κs =
-    let at-start : tie.Start Inv-loop μ-loop = search in
-    let f = c .before .last in
+    let at-start : tie.Start Inv-loop μ-loop = search in let f = c .before .last in
     let pre = at-start .pre in
     (λ e t. pre .0 (f .result) e (c .before .before .loop .inv .fewer (f .result) (one-left _ _ (f .ensures) (c .if1 .left))) t, pre .1)
 
@@ -38,8 +37,7 @@ apart-requires c κs = search needs
 
 returns-2 : tie.Need-returns-2 Inv-loop μ-loop
 returns-2 c =
-    let after-last : tie.After-last Inv-loop μ-loop = search in
-    let f = after-last .last in
+    let after-last : tie.After-last Inv-loop μ-loop = search in let f = after-last .last in
     let e = c .before .apart in
     liked-not _ _ _ _ _ (f .result) (e .result) (after-last .before .loop .inv) (one-left _ _ (f .ensures) (c .before .before .before .if1 .left)) (c .if2 .taken)
     (sym (c .before .before .marks-into .ensures (e .result)) ∙ e .ensures .found (c .if2 .taken))
@@ -49,8 +47,7 @@ without-requires c κs = search needs
 
 loop-less : tie.Need-loop-less Inv-loop μ-loop
 loop-less c =
-    let else1 : tie.Else1 Inv-loop μ-loop = search in
-    let n = else1 .if1 .left in
+    let else1 : tie.Else1 Inv-loop μ-loop = search in let n = else1 .if1 .left in
     let f = else1 .before .last .ensures in
     let r = one-within _ _ _ f n in
     left-falls _ _ _ (c .without .ensures) (r .0) (r .1) (one-left _ _ f n)

@@ -56,8 +56,7 @@ loop-less c = search needs
 
 loop-again : tie.Need-loop-again Inv-loop μ-loop
 loop-again c =
-    let start = c .before .before .before .before .before .before .before .before in
-    let at = c .before .before .before .before .loop in
+    let at-loop : tie.At-loop Inv-loop μ-loop = search in let start : tie.Start Inv-loop μ-loop = search in let at = at-loop .loop in
     (search needs, simp length-set (at .inv .1), rw (at .inv .2) (words-next (start .args .bytes .now) (start .args .words .now) (at .i) _ (omega arith) (omega arith) (c .word-of .ensures)))
 
 same-length : tie.Need-same-length Inv-loop μ-loop

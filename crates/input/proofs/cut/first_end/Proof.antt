@@ -20,13 +20,13 @@ header-end-requires c κs = search needs
 
 returns-2 : tie.Need-returns-2
 returns-2 c =
-    let words = c .before .before .before .before .before .args .words .now in
+    let at-start : tie.Start = search in let words = at-start .args .words .now in
     let e : c .before .header-end .result ≡ headerEnd words = c .before .header-end .ensures in
     (e ∙ sym (end-by-header words (sym (c .before .before .before .q1 .ensures) ∙ not-false _ (c .before .before .if1 .left)) (omega arith)), omega arith)
 
 returns-3 : tie.Need-returns-3
 returns-3 c =
-    let words = c .before .before .before .before .before .args .words .now in
+    let at-start : tie.Start = search in let words = at-start .args .words .now in
     let e : c .before .header-end .result ≡ headerEnd words = c .before .header-end .ensures in
     (sym (end-not-reached words (sym (c .before .before .before .q1 .ensures) ∙ not-false _ (c .before .before .if1 .left)) (omega arith)), omega arith)
 

@@ -38,9 +38,8 @@ same-length c = search needs
 
 returns-2 : tie.Need-returns-2
 returns-2 c =
-    let got = c .before .before .before .before .words-of in
-    let test = c .before .before .before .before .before .before in
-    let start = test .before .before .before .before .args in
+    let after-words-of : tie.After-words-of = search in let at-start : tie.Start = search in let got = after-words-of .words-of in
+    let test : tie.Else1 = search in let start = at-start .args in
     let end = c .first-end in
     two-sheets (start .input .now) (start .words .now) (sym (test .before .readable .ensures) ∙ not-false _ (test .if1 .left))
     (got .last .1 .0) (got .result) (end .result) (got .ensures .0) (got .ensures .1) (got .kept .1 .0) (end .ensures .0) (end .ensures .1)

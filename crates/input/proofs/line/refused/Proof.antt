@@ -22,7 +22,7 @@ with-byte-requires-2 c κs = search needs
 returns : tie.Need-returns
 unfolding refusedLine
 returns c =
-    let start = c .before .before .before .before .before .before in
+    let start : tie.Start = search in
     refused-line _ _ _ _ _ (start .args .question) (start .args .sheet) (record { len = refl; fits = omega arith; bytes = refl }) (omega arith) (omega arith) (c .before .before .before .with-number .ensures) (c .before .before .with-byte .ensures) (c .before .with-number2 .ensures) (c .with-byte2 .ensures)
 
 pub refused-spec : {M : Type 1} → statement M

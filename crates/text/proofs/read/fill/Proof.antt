@@ -32,8 +32,8 @@ step-requires c κs =
 
 put-requires : tie.Need-put-requires Inv-loop μ-loop
 put-requires c κs =
-    let start = c .before .before .before .before .before .before .before .before .args in
-    let at = c .before .before .before .before .loop in
+    let at-start : tie.Start Inv-loop μ-loop = search in let at-loop : tie.At-loop Inv-loop μ-loop = search in let start = at-start .args in
+    let at = at-loop .loop in
     let step = c .before .step in
     held-fits (start .words .now) (start .text .now) (at .words) (at .i) (at .reader) (step .result) (at .inv .1) (step .ensures)
 
@@ -45,21 +45,22 @@ loop-less c = search needs
 
 loop-again : tie.Need-loop-again Inv-loop μ-loop
 loop-again c =
-    let start = c .before .before .before .before .before .before .before .before .before .before .before .args in
-    let at = c .before .before .before .before .before .before .before .loop in
-    let step = c .before .before .before .before .step in
+    let at-start : tie.Start Inv-loop μ-loop = search in let at-loop : tie.At-loop Inv-loop μ-loop = search in
+    let after-step : tie.After-step Inv-loop μ-loop = search in let start = at-start .args in
+    let at = at-loop .loop in
+    let step = after-step .step in
     let more = filled-more (start .words .now) (start .text .now) (at .words) (at .i) (at .reader) (step .result) in
-    (search needs, rw (c .before .before .put .ensures) (more (c .before .before .before .before .before .before .loop-test .taken) (at .inv .1) (step .ensures)))
+    (search needs, rw (c .before .before .put .ensures) (more (after-step .before .before .loop-test .taken) (at .inv .1) (step .ensures)))
 
 same-length : tie.Need-same-length Inv-loop μ-loop
 same-length c =
-    let start = c .before .before .before .before .before .args in
+    let at-start : tie.Start Inv-loop μ-loop = search in let start = at-start .args in
     let at = c .before .loop in
     filled-length (start .words .now) (start .text .now) (at .words) (at .i) (at .reader) (at .inv .1)
 
 returns : tie.Need-returns Inv-loop μ-loop
 returns c =
-    let start = c .before .before .before .before .before .args in
+    let at-start : tie.Start Inv-loop μ-loop = search in let start = at-start .args in
     let at = c .before .loop in
     filled-all (start .words .now) (start .text .now) (at .words) (at .i) (at .reader) (omega arith) (at .inv .1)
 

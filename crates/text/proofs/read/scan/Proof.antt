@@ -37,7 +37,7 @@ loop-less c = search needs
 
 loop-again : tie.Need-loop-again Inv-loop μ-loop
 loop-again c =
-    let start = c .before .before .before .before .before .before .args in
+    let at-start : tie.Start Inv-loop μ-loop = search in let start = at-start .args in
     let at = c .before .before .before .loop in
     let passed = at .inv .1 .1 in
     let more = passed-more (start .room) (start .text .now) (at .i) (at .reader) (c .step .result) (at .inv .1 .0) in
@@ -51,7 +51,7 @@ told-requires c κs = search needs
 
 returns : tie.Need-returns Inv-loop μ-loop
 returns c =
-    let start = c .before .before .before .before .before .before .args in
+    let at-start : tie.Start Inv-loop μ-loop = search in let start = at-start .args in
     let at = c .before .before .before .loop in
     c .told .ensures ∙ passed-all (start .room) (start .text .now) (at .i) (at .reader) (at .inv .1 .0) (omega arith) (at .inv .1 .1)
 

@@ -24,14 +24,14 @@ same-length c = search needs
 
 returns : tie.Need-returns
 returns c =
-    let start = c .before .before .before .before .before .before .before .before .before .before .args in
-    let told = sym (c .before .before .before .before .before .found .given .1) ∙ c .before .before .before .before .before .before .before .scan .ensures in
+    let at-start : tie.Start = search in let after-found : tie.After-found = search in let start = at-start .args in
+    let told = sym (after-found .found .given .1) ∙ after-found .before .before .scan .ensures in
     let read = readingOf (length (start .words .now)) (start .text .now) in
     (told, left-filled read _ (start .words .now) _ told (c .before .before .fill .ensures))
 
 returns-2 : tie.Need-returns-2
 returns-2 c =
-    let start = c .before .before .before .before .before .before .args in
+    let at-start : tie.Start = search in let start = at-start .args in
     let told = sym (c .before .found2 .given .1) ∙ c .before .before .before .scan .ensures in
     (told, left-alone (readingOf (length (start .words .now)) (start .text .now)) _ _ (start .words .now) told)
 

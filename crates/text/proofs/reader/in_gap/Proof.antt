@@ -31,14 +31,14 @@ returns c =
 
 returns-2 : tie.Need-returns-2
 returns-2 c =
-    let start = c .before .before .before .before .before .args in
-    let sort = sym (c .before .before .before .before .sort-of .ensures) ∙ c .before .before .sort .given .1 in
+    let after-sort-of : tie.After-sort-of = search in let start = after-sort-of .before .args in
+    let sort = sym (after-sort-of .sort-of .ensures) ∙ c .before .before .sort .given .1 in
     gap-full (start .room) (start .at) (start .byte) _ sort (c .if1 .taken)
 
 returns-3 : tie.Need-returns-3
 returns-3 c =
-    let start = c .before .before .before .before .before .args in
-    let sort = sym (c .before .before .before .before .sort-of .ensures) ∙ c .before .before .sort .given .1 in
+    let after-sort-of : tie.After-sort-of = search in let start = after-sort-of .before .args in
+    let sort = sym (after-sort-of .sort-of .ensures) ∙ c .before .before .sort .given .1 in
     gap-digit (start .room) (start .at) (start .byte) _ sort (c .if1 .left)
 
 returns-4 : tie.Need-returns-4

@@ -21,7 +21,7 @@ same-length c = search needs
 
 returns : tie.Need-returns
 returns c =
-    let start = c .before .before .before .before .before .before .args in
+    let at-start : tie.Start = search in let start = at-start .args in
     let line = c .before .before .before .word-line in
     let put = c .before .before .put-line in
     let pasted = line-pasted (line .result) (wordText (start .word) (start .blank)) (start .text .now) (start .at) (line .ensures) in

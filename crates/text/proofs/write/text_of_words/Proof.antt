@@ -42,7 +42,7 @@ shared-slice-read-put-word c = search needs
 
 put-word-requires : tie.Need-put-word-requires Inv-loop μ-loop
 put-word-requires c κs =
-    let wrote = c .before .before .before .before .loop .inv .1 in
+    let at-loop : tie.At-loop Inv-loop μ-loop = search in let wrote = at-loop .loop .inv .1 in
     omega (arith, wrote .size, wrote .room)
 
 add-i : tie.Need-add-i Inv-loop μ-loop
@@ -53,22 +53,23 @@ loop-less c = search needs
 
 loop-again : tie.Need-loop-again Inv-loop μ-loop
 loop-again c =
-    let start = c .before .before .before .before .before .before .before .before .before .before .before .args in
-    let at = c .before .before .before .before .before .before .before .loop in
+    let at-start : tie.Start Inv-loop μ-loop = search in let after-ender : tie.After-ender Inv-loop μ-loop = search in
+    let start = at-start .args in
+    let at = after-ender .before .before .loop in
     let word = getD (start .words .now) (at .i) 0 in
-    let blank = c .before .before .before .before .before .ender in
+    let blank = after-ender .ender in
     let put = c .before .before .put-word in
     let small : word < 65536 = omega (arith, c .before .before .before .shared-slice-known2 .given (at .i)) in
     let most = word-most word (blank .result) small in
     let more = wrote-more (start .words .now) (start .text .now) (at .text) (wordText word (blank .result)) (at .i) (at .at) in
-    (search needs, rw (put .ensures .0, put .ensures .1) (more (c .before .before .before .before .before .before .loop-test .taken) (at .inv .1) (ap (wordText word) (blank .ensures)) most))
+    (search needs, rw (put .ensures .0, put .ensures .1) (more (after-ender .before .loop-test .taken) (at .inv .1) (ap (wordText word) (blank .ensures)) most))
 
 same-length : tie.Need-same-length Inv-loop μ-loop
 same-length c = c .before .loop .inv .1 .size
 
 returns-2 : tie.Need-returns-2 Inv-loop μ-loop
 returns-2 c =
-    let start = c .before .before .before .before .before .args in
+    let at-start : tie.Start Inv-loop μ-loop = search in let start = at-start .args in
     let at = c .before .loop in
     let all = wrote-all (start .words .now) (start .text .now) (at .text) (at .i) (at .at) (omega arith) (at .inv .1) in
     text-written (start .words .now) (start .text .now) (at .text) (at .at) (omega arith) all

@@ -16,8 +16,8 @@ is-empty-requires c κs = omega arith
 
 returns : tie.Need-returns
 returns c =
-    let a = c .before .before .before .before .args in
-    starts-in (a .m .now) (c .before .before .before .before .pre) (rowHas (c .before .before .start-row .result)) (rowHas (a .last)) (rowHas (c .before .difference .result)) (c .is-empty .result) (c .before .before .start-row .ensures) (c .before .difference .ensures) (c .is-empty .ensures)
+    let at-start : tie.Start = search in let a = at-start .args in
+    starts-in (a .m .now) (at-start .pre) (rowHas (c .before .before .start-row .result)) (rowHas (a .last)) (rowHas (c .before .difference .result)) (c .is-empty .result) (c .before .before .start-row .ensures) (c .before .difference .ensures) (c .is-empty .ensures)
 
 pub keeps-spec : {M : Type 1} → statement M
 keeps-spec = tie.close (tie.spec start-row-requires difference-requires is-empty-requires returns)

@@ -18,7 +18,7 @@ use Rattle.truth.proofs.labelling.label.Statement.{statement}
 use Rattle.truth.proofs.labelling.label.Tie as tie
 
 abbrev start : tie.Else1 → tie.Start
-start c = c .before .before .before .before .before
+start c = search
 
 -- where no question refuses, both sheets are accepted, and the space is enough
 accepted : (c : tie.Else1)
@@ -37,7 +37,7 @@ sheet-of-requires c κs = omega arith
 
 returns : tie.Need-returns
 returns c =
-    let a = c .before .before .before .before .before .before .args in
+    let at-start : tie.Start = search in let a = at-start .args in
     refused (a .m .now) (a .r .now) (a .rows .now) _ (c .before .before .label-refusal .ensures) _ (c .before .if1 .taken) (c .sheet-of .ensures)
 
 lines-requires : tie.Need-lines-requires
@@ -54,23 +54,23 @@ cast-line-row c = omega arith
 
 line-row-requires : tie.Need-line-row-requires
 line-row-requires c κs =
-    let s = accepted (c .before .before .before .before .before .before) in
+    let after-lines : tie.After-lines = search in let s = accepted (after-lines .before) in
     let some = some-line lent _ (s .1 .0) in
-    let l = c .before .before .before .before .before .lines .ensures in
+    let l = after-lines .lines .ensures in
     (omega arith, omega (arith, s .1 .1, c .before .before .before .label-lines .ensures .size))
 
 count-requires : tie.Need-count-requires
 count-requires c κs = omega arith
 
 keeps-requires : tie.Need-keeps-requires
-keeps-requires c κs = nodes-sized _ (accepted (c .before .before .before .before .before .before .before .before) .0) .1
+keeps-requires c κs = let else1 : tie.Else1 = search in nodes-sized _ (accepted else1 .0) .1
 
 nodes-requires : tie.Need-nodes-requires
 nodes-requires c κs = omega arith
 
 percent-requires : tie.Need-percent-requires
 percent-requires c κs =
-    let sized = nodes-sized _ (accepted (c .before .before .before .before .before .before .before .before .before .before) .0) in
+    let else1 : tie.Else1 = search in let sized = nodes-sized _ (accepted else1 .0) in
     (rw (c .before .before .count .ensures, tally-number membersMost (rowHas (c .before .before .before .line-row .result))) (number-most membersMost _), omega (arith, c .nodes .ensures))
 
 same-length : tie.Need-same-length
@@ -78,13 +78,11 @@ same-length c = search needs
 
 returns-2 : tie.Need-returns-2
 returns-2 c =
-    let none = c .before .before .before .before .before .before .before .before .before .before .before in
-    let a = start none .args in
-    let labelled = c .before .before .before .before .before .before .before .before in
-    let lines = labelled .before .before .lines in
-    let row = c .before .before .before .before .line-row in
+    let after-line-row : tie.After-line-row = search in let none : tie.Else1 = search in let a = start none .args in
+    let labelled : tie.After-label-lines = search in let lines = labelled .before .before .lines in
+    let row = after-line-row .line-row in
     let i = 2 * (lines .result - 1) in
-    let below = c .before .before .before .before .before .before .slice-known2 .given in
+    let below = after-line-row .before .before .slice-known2 .given in
     let lo : row .result .low < 2 ^ rowWordBits = omega (arith, row .ensures .0, below i) in
     let hi : row .result .high < 2 ^ rowWordBits = omega (arith, row .ensures .1, below (i + 1)) in
     done (a .m .now) (a .r .now) (a .rows .now) _ (none .before .label-refusal .ensures) _ (row .result .low) (row .result .high) _ _ _ _ (none .if1 .left)

@@ -24,7 +24,7 @@ nodes-requires c κs = omega arith
 
 predecessors-requires : tie.Need-predecessors-requires Inv-loop μ-loop
 predecessors-requires c κs =
-    let start = c .before .before .before .before .before .before in
+    let start : tie.Start Inv-loop μ-loop = search in
     omega (arith, c .before .nodes .ensures, nodes-sized (start .args .m .now) (start .pre .0))
 
 loop-holds : tie.Need-loop-holds Inv-loop μ-loop
@@ -35,8 +35,7 @@ add-j c = omega arith
 
 row-of-line-requires : tie.Need-row-of-line-requires Inv-loop μ-loop
 row-of-line-requires c κs =
-    let tables = c .before .before .before .before .before in
-    let start = tables .before .before .before .before .before .before .before in
+    let tables : tie.After-predecessors Inv-loop μ-loop = search in let start : tie.Start Inv-loop μ-loop = search in
     record {
       ready = ready (start .args .m .now) (start .args .r .now) _ _ _ (tables .before .before .nodes .ensures) (start .pre .0) (start .pre .1 .0)
           (tables .before .before .before .successors .ensures) (tables .predecessors .ensures);
@@ -49,19 +48,19 @@ cast-set-line-row : tie.Need-cast-set-line-row Inv-loop μ-loop
 cast-set-line-row c = omega arith
 
 set-line-row-requires : tie.Need-set-line-row-requires Inv-loop μ-loop
-set-line-row-requires c κs = (omega arith, omega (arith, c .before .before .before .before .before .before .before .before .before .before .before .before .before .before .pre .1 .1 .1))
+set-line-row-requires c κs = let at-start : tie.Start Inv-loop μ-loop = search in (omega arith, omega (arith, at-start .pre .1 .1 .1))
 
 loop-less : tie.Need-loop-less Inv-loop μ-loop
 loop-less c = omega arith
 
 loop-again : tie.Need-loop-again Inv-loop μ-loop
 loop-again c =
-    let at = c .before .before .before .before .before .before .before .before .before in
-    let start = at .before .before .before .before .before .before .before .before in
+    let after-row-of-line : tie.After-row-of-line Inv-loop μ-loop = search in let at : tie.At-loop Inv-loop μ-loop = search in
+    let start : tie.Start Inv-loop μ-loop = search in
     let most = start .pre .1 .1 in (
       omega arith,
       written-more (start .args .m .now) (start .args .r .now) (start .pre .0) (start .pre .1 .0) _ _ _ _ (at .loop .inv .1) refl
-          (omega (arith, most .0)) (omega (arith, most .1)) (c .before .before .before .before .row-of-line .ensures) (c .before .before .set-line-row .ensures),
+          (omega (arith, most .0)) (omega (arith, most .1)) (after-row-of-line .row-of-line .ensures) (c .before .before .set-line-row .ensures),
     )
 
 same-length : tie.Need-same-length Inv-loop μ-loop
@@ -69,7 +68,7 @@ same-length c = c .before .loop .inv .1 .size
 
 returns : tie.Need-returns Inv-loop μ-loop
 returns c =
-    let e : c .before .loop .j ≡ c .before .before .before .before .before .before .before .before .before .args .upto = omega arith in
+    let at-start : tie.Start Inv-loop μ-loop = search in let e : c .before .loop .j ≡ at-start .args .upto = omega arith in
     rw e at (c .before .loop .inv .1)
 
 pub label-lines-spec : {M : Type 1} → statement M

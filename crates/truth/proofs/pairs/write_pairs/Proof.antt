@@ -26,7 +26,7 @@ use ghost.Atoms.{Atoms}
 use contract.Lifetimes.{Lfts, Shares}
 use contract.Monad.{Fun, factI}
 use contract.Running.{givenOf, tables, tablesOf}
-use types.Kit.{Given, Item, ‵, Sq, runs, anyQ, atRet, _$_, !, by, move, keep, drop, rewrite, fsplit, fjoin}
+use types.Kit.{Given, Item, ‵, Sq, runs, anyQ, atRet, _$_, !, by, move, drop, rewrite, fsplit, fjoin}
 use types.Run.{look, init, store, store-raw, forget, stop, hop, fld, from, load, lit, unit-lit, of-opd, and-then, no-more, bin, un, assigns, assigns-last, first, blocks, exec, Below, again, loops}
 use types.Part.{agg, whole, sub, look-in}
 use types.Share.{arr-parts}

@@ -12,11 +12,15 @@ use Rattle.truth.proofs.path.make.Statement.{statement}
 use Rattle.truth.proofs.path.make.Tie as tie
 
 -- where no question refuses, both sheets are accepted
-machine : (c : tie.Else1) → machineRefusal (c .before .before .before .before .args .m .now) ≡ 0
-machine c = let a = c .before .before .before .before .args in machine-accepted (a .m .now) (a .r .now) (a .line) (a .node) (a .room) _ (c .before .path-refusal .ensures) (c .if1 .left)
+machine : (c : tie.Else1) → let at-start : tie.Start = search in machineRefusal (at-start .args .m .now) ≡ 0
+machine c =
+    let at-start : tie.Start = search in
+    let a = at-start .args in machine-accepted (a .m .now) (a .r .now) (a .line) (a .node) (a .room) _ (c .before .path-refusal .ensures) (c .if1 .left)
 
-rules : (c : tie.Else1) → ruleRefusal lent (c .before .before .before .before .args .r .now) ≡ 0
-rules c = let a = c .before .before .before .before .args in rules-accepted (a .m .now) (a .r .now) (a .line) (a .node) (a .room) _ (c .before .path-refusal .ensures) (c .if1 .left)
+rules : (c : tie.Else1) → let at-start : tie.Start = search in ruleRefusal lent (at-start .args .r .now) ≡ 0
+rules c =
+    let at-start : tie.Start = search in
+    let a = at-start .args in rules-accepted (a .m .now) (a .r .now) (a .line) (a .node) (a .room) _ (c .before .path-refusal .ensures) (c .if1 .left)
 
 path-refusal-requires : tie.Need-path-refusal-requires
 path-refusal-requires c κs = search needs
@@ -26,7 +30,7 @@ sheet-of-requires c κs = search needs
 
 returns : tie.Need-returns
 returns c =
-    let a = c .before .before .before .before .before .args in
+    let at-start : tie.Start = search in let a = at-start .args in
     refused (a .m .now) (a .r .now) (a .line) (a .node) (a .room) _ (c .before .before .path-refusal .ensures) _ _ _ (c .before .if1 .taken) (c .sheet-of .ensures)
 
 asked-requires : tie.Need-asked-requires
@@ -36,10 +40,10 @@ slice-aggregate-label-lines : tie.Need-slice-aggregate-label-lines
 slice-aggregate-label-lines c = search needs
 
 -- the asked line is one of the sheet
-line : (c : tie.After-rows) → (1 ≤ c .before .asked .result) × (c .before .asked .result ≤ lines (c .before .before .before .before .before .before .args .r .now))
+line : (c : tie.After-rows) → let at-start : tie.Start = search in (1 ≤ c .before .asked .result) × (c .before .asked .result ≤ lines (at-start .args .r .now))
 line c =
-    let accepted = c .before .before in
-    let a = accepted .before .before .before .before .args in
+    let at-start : tie.Start = search in let accepted = c .before .before in
+    let a = at-start .args in
     line-in (a .m .now) (a .r .now) (a .line) (a .node) (a .room) _ (accepted .before .path-refusal .ensures) (accepted .if1 .left) _ (c .before .asked .ensures)
 
 sub-label-lines : tie.Need-sub-label-lines
@@ -63,20 +67,20 @@ slice-aggregate-show-line c = search needs
 
 show-line-requires : tie.Need-show-line-requires
 show-line-requires c κs =
-    let worded = c .before .before in
+    let at-start : tie.Start = search in let worded = c .before .before in
     let labelled = worded .before .before .before in
     let accepted = labelled .before .before .before in
-    let a = accepted .before .before .before .before .args in
+    let a = at-start .args in
     show-ready (a .m .now) (a .r .now) (a .line) (a .node) (a .room) _ (accepted .before .path-refusal .ensures) (accepted .if1 .left) _ (labelled .before .before .asked .ensures)
     _ _ (labelled .label-lines .ensures) _ _ (worded .before .path-line .ensures) (worded .operation .ensures) true (eq-eqb _ _ (c .before .if2 .taken))
     (labelled .label-lines .ensures .size)
 
 returns-2 : tie.Need-returns-2
 returns-2 c =
-    let worded = c .before .before .before in
+    let at-start : tie.Start = search in let worded = c .before .before .before in
     let labelled = worded .before .before .before in
     let accepted = labelled .before .before .before in
-    let a = accepted .before .before .before .before .args in
+    let a = at-start .args in
     shown (a .m .now) (a .r .now) (a .line) (a .node) (a .room) _ (accepted .before .path-refusal .ensures) (accepted .if1 .left) _ (labelled .before .before .asked .ensures)
     _ _ (labelled .label-lines .ensures) _ _ (worded .before .path-line .ensures) (worded .operation .ensures) true (eq-eqb _ _ (c .before .before .if2 .taken))
     _ _ _ (c .show-line .ensures)
@@ -86,20 +90,20 @@ slice-aggregate-show-line-2 c = search needs
 
 show-line-requires-2 : tie.Need-show-line-requires-2
 show-line-requires-2 c κs =
-    let worded = c .before .before in
+    let at-start : tie.Start = search in let worded = c .before .before in
     let labelled = worded .before .before .before in
     let accepted = labelled .before .before .before in
-    let a = accepted .before .before .before .before .args in
+    let a = at-start .args in
     show-ready (a .m .now) (a .r .now) (a .line) (a .node) (a .room) _ (accepted .before .path-refusal .ensures) (accepted .if1 .left) _ (labelled .before .before .asked .ensures)
     _ _ (labelled .label-lines .ensures) _ _ (worded .before .path-line .ensures) (worded .operation .ensures) false (ne-eqb _ _ (c .before .if2 .left))
     (labelled .label-lines .ensures .size)
 
 returns-3 : tie.Need-returns-3
 returns-3 c =
-    let worded = c .before .before .before in
+    let at-start : tie.Start = search in let worded = c .before .before .before in
     let labelled = worded .before .before .before in
     let accepted = labelled .before .before .before in
-    let a = accepted .before .before .before .before .args in
+    let a = at-start .args in
     shown (a .m .now) (a .r .now) (a .line) (a .node) (a .room) _ (accepted .before .path-refusal .ensures) (accepted .if1 .left) _ (labelled .before .before .asked .ensures)
     _ _ (labelled .label-lines .ensures) _ _ (worded .before .path-line .ensures) (worded .operation .ensures) false (ne-eqb _ _ (c .before .before .if2 .left))
     _ _ _ (c .show-line2 .ensures)

@@ -20,8 +20,8 @@ long-states c = search needs
 -- no more pairs than both lists have
 few : (c : tie.After-length-of) → c .length-of .result ≤ min (c .before .before .least .result) pairsMost
 few c =
-    let made = c .before .make-within in
-    let a = c .before .before .before .before .before .before .before .args in
+    let at-start : tie.Start = search in let made = c .before .make-within in
+    let a = at-start .args in
     count-most (a .m .now) (a .r .now) (a .line) (a .node) _ (made .result .nodes) (made .result .states) _ (made .result .answer)
     (made .ensures) (c .length-of .ensures)
 
@@ -42,8 +42,7 @@ write-nodes-requires c κs =
 
 write-first-requires : tie.Need-write-first-requires
 write-first-requires c κs =
-    let counted = c .before .before .before .before .before .before .before .before .before in
-    let least = counted .before .before .least .ensures in
+    let counted : tie.After-length-of = search in let least = counted .before .before .least .ensures in
     (omega (arith, few counted), long-states (counted .before), omega (arith, few counted, least))
 
 same-length : tie.Need-same-length
@@ -54,10 +53,9 @@ same-length-2 c = search needs
 
 returns : tie.Need-returns
 returns c =
-    let nodes-written = c .before .before .before .before .before .before .before .before in
-    let counted = nodes-written .before .before .before .before in
+    let at-start : tie.Start = search in let nodes-written : tie.After-write-nodes = search in let counted : tie.After-length-of = search in
     let made = counted .before .make-within in
-    let a = counted .before .before .before .before .before .before .before .args in
+    let a = at-start .args in
     let least = counted .before .before .least .ensures in
     answered (a .m .now) (a .r .now) (a .line) (a .node) _ (made .result .nodes) (made .result .states) (a .nodes .now) (a .states .now) _ _
     (omega (arith, least)) (omega (arith, long-nodes (counted .before))) (omega (arith, long-states (counted .before))) _ (made .result .answer)

@@ -49,7 +49,7 @@ within-requires-2 c κs = search needs
 
 returns-2 : tie.Need-returns-2
 returns-2 c =
-    let first = c .before .before .before .before in
+    let first : tie.After-within = search in
     no-node _ _ _ _ _ _ _ 0 _ _ true (first .before .before .asked .ensures) (first .before .lines .ensures) (first .within .ensures)
     (c .before .before .before .if1 .left) (c .before .before .nodes .ensures) (c .before .within2 .ensures) (c .if2 .taken)
 

@@ -11,13 +11,12 @@ nodes-requires c κs = search needs
 
 predecessors-requires : tie.Need-predecessors-requires
 predecessors-requires c κs =
-    let start = c .before .before .before .before in
+    let start : tie.Start = search in
     omega (arith, c .nodes .ensures, nodes-sized (start .args .m .now) (start .pre .0) .1)
 
 show-requires : tie.Need-show-requires
 show-requires c κs =
-    let start = c .before .before .before .before .before .before in
-    let a = start .args in
+    let start : tie.Start = search in let a = start .args in
     let pre = start .pre in
     pre .1 .1 .1 _ _ (ready (a .m .now) (a .r .now) _ _ _ (c .before .before .nodes .ensures) (pre .0) (pre .1 .0) (pre .1 .1 .0) (c .before .predecessors .ensures))
 

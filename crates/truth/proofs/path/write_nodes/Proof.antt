@@ -36,7 +36,7 @@ mul-list c = search needs
 
 slice-write-list : tie.Need-slice-write-list Inv-loop μ-loop
 slice-write-list c =
-    let a = c .before .before .before .before .before .args in
+    let at-start : tie.Start Inv-loop μ-loop = search in let a = at-start .args in
     let l = c .before .before .before .loop in
     omega (arith, ap length (l .inv .1), written-length (a .from .now) (a .list .now) (l .i) (omega arith) (omega arith))
 
@@ -48,7 +48,7 @@ loop-less c = search needs
 
 loop-again : tie.Need-loop-again Inv-loop μ-loop
 loop-again c =
-    let a = c .before .before .before .before .before .args in
+    let at-start : tie.Start Inv-loop μ-loop = search in let a = at-start .args in
     let l = c .before .before .before .loop in
     (search needs, rw (c .wide .ensures) (written-next (a .from .now) (a .list .now) (l .list) (l .i) (omega arith) (omega arith) (l .inv .1)))
 

@@ -18,8 +18,8 @@ next-place-requires c κs = search needs
 
 returns : tie.Need-returns
 returns c =
-    let start = c .before .before .before .before .before .args in
-    let comment = c .before .before .before .before .commented in
+    let after-commented : tie.After-commented = search in let start = after-commented .before .args in
+    let comment = after-commented .commented in
     let seen = c .before .before .before .seen in
     let after = c .before .state-after in
     steps (start .self) (start .byte) (comment .result) (seen .result) _ (after .result)
