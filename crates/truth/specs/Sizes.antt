@@ -41,16 +41,16 @@ cell p p′ = positionsMost * p + p′
 abbrev pub setWords : ℕ
 setWords = rowWords * positionsMost
 
+-- the valuations of an automaton's variables, from 0: no more than positions, so that such a table has a row for each of them too
+abbrev pub valuationsMost : ℕ
+valuationsMost = 2 ^ variablesMost
+
 -- a table with a number for each pair of a position and a node: its numbers, and the place of (p, s)
 abbrev pub pairsMost : ℕ
 pairsMost = positionsMost * nodesMost
 
 abbrev pub pairAt : ℕ → ℕ → ℕ
 pairAt p s = nodesMost * p + (s - 1)
-
--- the valuations of an automaton's variables, from 0; they are no more than positions, so that such a table has a row for each
-abbrev pub valuationsMost : ℕ
-valuationsMost = 2 ^ variablesMost
 
 -- ---- the space in which a path call labels the lines above the asked one: a row a line
 abbrev pub linesWords : ℕ
