@@ -13,6 +13,7 @@ use Rattle.sheets.specs.Structures.{Automaton}
 use Rattle.sheets.specs.Rules.{lent, lines, automata, automaton, line, ruleRefusal}
 use Rattle.sheets.specs.Positioned.{positioned}
 use Rattle.sheets.specs.declared.position.ByPosition.{ByPosition}
+use Rattle.truth.specs.Sizes.{rowWords, membersMost}
 use Rattle.truth.specs.Truth.{Means, SomePath}
 use Rattle.truth.specs.Product.{argument, good, Refers, Allowed, GoodRows}
 use Rattle.truth.specs.Pairs.{edgeIn, Transposed, Greatest, Least}
@@ -20,7 +21,7 @@ use Rattle.truth.specs.Labelling.{rowTruths}
 
 -- row s - 1 of `next` has the successors of node s of M
 abbrev pub Successors : List ℕ → List ℕ → Type 0
-Successors M next = (s u : ℕ) → 1 ≤ s → s ≤ nodes M → edgeIn next s u ≡ (within 1 128 u && kripke M .edge s u)
+Successors M next = (s u : ℕ) → 1 ≤ s → s ≤ nodes M → edgeIn next s u ≡ (within 1 membersMost u && kripke M .edge s u)
 
 -- accepted sheets, and the tables of the machine: the successors of each node, and its predecessors likewise
 pub record Ready (M R next back : List ℕ) : Type 0 where
@@ -34,7 +35,7 @@ pub record LineReady (M R next back rows : List ℕ) (j : ℕ) : Type 0 where
   pub ready : Ready M R next back
   pub from : 1 ≤ j
   pub to : j ≤ lines R
-  pub above : 2 * (j - 1) ≤ length rows
+  pub above : rowWords * (j - 1) ≤ length rows
 
 -- a set is the row of line j: it has the nodes where the line is true by the bits of the rows above it, and no other bit
 pub record LineRow (M R rows : List ℕ) (j : ℕ) (row : ℕ → Bool) : Type 0 where
@@ -66,7 +67,7 @@ pub record PathRow (M R rows : List ℕ) (j x : ℕ) (exchanged : Bool) (row : �
 
 -- the nodes of M, as a row has them
 abbrev pub nodeSet : List ℕ → ℕ → Bool
-nodeSet M s = leb s (nodes M) && within 1 128 s
+nodeSet M s = leb s (nodes M) && within 1 membersMost s
 
 -- The tables of a path line, solved: where the automaton A, of t positions, may go, the largest set of good pairs each of which has a step
 -- into it, and the pairs from which steps lead into that set, with their times.

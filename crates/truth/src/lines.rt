@@ -8,6 +8,7 @@ ghost use Rattle.sheets.specs.Words.{within};
 ghost use Rattle.sheets.specs.Machine as Machine;
 ghost use Rattle.sheets.specs.Structures.{Automaton};
 ghost use Rattle.sheets.specs.Tabled.{Tabled};
+ghost use Rattle.truth.specs.Sizes.{rowWords, membersMost, tableWords};
 ghost use Rattle.truth.specs.Rows.{rowHas, rowsHas};
 ghost use Rattle.truth.specs.Pairs.{NoRow, NoTime};
 ghost use Rattle.truth.specs.Product.{argument};
@@ -16,6 +17,7 @@ use crate::growth::grow;
 use crate::positions;
 use crate::product;
 use crate::rows::Row;
+use crate::sizes;
 use crate::structure;
 use crate::tables::line_row;
 use crate::trimming::trim;
@@ -28,8 +30,8 @@ use sheets::position::ByPosition;
 
 // The sets of pairs of a path line: the largest lasting set of good pairs, and the pairs that reach it.
 struct Sets {
-    lasting: [u64; 32],
-    reached: [u64; 32],
+    lasting: [u64; sizes::SET_WORDS],
+    reached: [u64; sizes::SET_WORDS],
 }
 
 // Solves line j for an automaton by position, with accepting and non-accepting exchanged for operation 4. Where the automaton may go is
@@ -37,22 +39,22 @@ struct Sets {
 fn solve_with(
     m: &[u16],
     r: &[u16],
-    next: &[u64; 512],
-    back: &[u64; 512],
+    next: &[u64; sizes::TABLE_WORDS],
+    back: &[u64; sizes::TABLE_WORDS],
     rows: &[u64],
     j: u16,
     a: ByPosition,
     exchanged: bool,
-    allow: &mut [u64; 512],
+    allow: &mut [u64; sizes::TABLE_WORDS],
     times: &mut [u16],
 ) -> Sets
-    requires { ⌜ Solvable (now m) (now next) (now back) (now rows) (argument (now r) j) a × (length (now allow) ≡ 512) × ((p : ℕ) → NoRow (now allow) p) × NoTime (now times) ⌝ }
+    requires { ⌜ Solvable (now m) (now next) (now back) (now rows) (argument (now r) j) a × (length (now allow) ≡ tableWords) × ((p : ℕ) → NoRow (now allow) p) × NoTime (now times) ⌝ }
     ensures { λ s. ⌜ ((A : Automaton) (t : ℕ) (name : ℕ → ℕ) → Tabled A t name a → SolvedLine (now (m .entry)) A t (now (next .entry)) (now (rows .entry)) (argument (now (r .entry)) j) exchanged (now (allow .exit)) (s .lasting) (s .reached) (now (times .exit))) ⌝ }
 {
     let all = structure::node_row(machine::nodes(m));
     let t = a.count;
-    let mut into = [0u64; 32];
-    let mut onto = [0u64; 32];
+    let mut into = [0u64; sizes::SET_WORDS];
+    let mut onto = [0u64; sizes::SET_WORDS];
     product::allow_table(
         r,
         rows,
@@ -76,18 +78,18 @@ fn solve_with(
 
 // The tables of a path line, solved.
 pub struct Solved {
-    pub allow: [u64; 512],
-    pub lasting: [u64; 32],
-    pub reached: [u64; 32],
-    pub times: [u16; 2048],
+    pub allow: [u64; sizes::TABLE_WORDS],
+    pub lasting: [u64; sizes::SET_WORDS],
+    pub reached: [u64; sizes::SET_WORDS],
+    pub times: [u16; sizes::PAIRS],
 }
 
 // Solves line j with times, by which a path is found.
 pub fn solve(
     m: &[u16],
     r: &[u16],
-    next: &[u64; 512],
-    back: &[u64; 512],
+    next: &[u64; sizes::TABLE_WORDS],
+    back: &[u64; sizes::TABLE_WORDS],
     rows: &[u64],
     j: u16,
     a: ByPosition,
@@ -96,8 +98,8 @@ pub fn solve(
     requires { ⌜ Solvable (now m) (now next) (now back) (now rows) (argument (now r) j) a ⌝ }
     ensures { λ s. ⌜ ((A : Automaton) (t : ℕ) (name : ℕ → ℕ) → Tabled A t name a → SolvedLine (now (m .entry)) A t (now (next .entry)) (now (rows .entry)) (argument (now (r .entry)) j) exchanged (s .allow) (s .lasting) (s .reached) (s .times)) ⌝ }
 {
-    let mut allow = [0u64; 512];
-    let mut times = [0u16; 2048];
+    let mut allow = [0u64; sizes::TABLE_WORDS];
+    let mut times = [0u16; sizes::PAIRS];
     let sets = solve_with(
         m,
         r,
@@ -124,8 +126,8 @@ pub fn solve(
 fn path_row(
     m: &[u16],
     r: &[u16],
-    next: &[u64; 512],
-    back: &[u64; 512],
+    next: &[u64; sizes::TABLE_WORDS],
+    back: &[u64; sizes::TABLE_WORDS],
     rows: &[u64],
     j: u16,
     x: u16,
@@ -135,7 +137,7 @@ fn path_row(
     ensures { λ row. ⌜ PathRow (now (m .entry)) (now (r .entry)) (now (rows .entry)) j x exchanged (rowHas row) ⌝ }
 {
     let a = position::by_position(r, x);
-    let mut allow = [0u64; 512];
+    let mut allow = [0u64; sizes::TABLE_WORDS];
     let mut times = [0u16; 1];
     let sets = solve_with(
         m,
@@ -155,8 +157,8 @@ fn path_row(
 
 // The nodes that the row of line k has not.
 fn negation_row(m: &[u16], rows: &[u64], k: u16) -> Row
-    requires { ⌜ (1 ≤ k) × (2 * k ≤ length (now rows)) ⌝ }
-    ensures { λ r. ⌜ ((s : ℕ) → rowHas r s ≡ (leb s (Machine.nodes (now (m .entry))) && (within 1 128 s && not (rowsHas (now (rows .entry)) (k - 1) s)))) ⌝ }
+    requires { ⌜ (1 ≤ k) × (rowWords * k ≤ length (now rows)) ⌝ }
+    ensures { λ r. ⌜ ((s : ℕ) → rowHas r s ≡ (leb s (Machine.nodes (now (m .entry))) && (within 1 membersMost s && not (rowsHas (now (rows .entry)) (k - 1) s)))) ⌝ }
 {
     let all = structure::node_row(machine::nodes(m));
     all.difference(line_row(rows, k as usize))
@@ -164,8 +166,8 @@ fn negation_row(m: &[u16], rows: &[u64], k: u16) -> Row
 
 // The nodes that the row of line i or that of line k has.
 fn either_row(m: &[u16], rows: &[u64], i: u16, k: u16) -> Row
-    requires { ⌜ ((1 ≤ i) × (2 * i ≤ length (now rows))) × ((1 ≤ k) × (2 * k ≤ length (now rows))) ⌝ }
-    ensures { λ r. ⌜ ((s : ℕ) → rowHas r s ≡ (leb s (Machine.nodes (now (m .entry))) && (within 1 128 s && (rowsHas (now (rows .entry)) (i - 1) s || rowsHas (now (rows .entry)) (k - 1) s)))) ⌝ }
+    requires { ⌜ ((1 ≤ i) × (rowWords * i ≤ length (now rows))) × ((1 ≤ k) × (rowWords * k ≤ length (now rows))) ⌝ }
+    ensures { λ r. ⌜ ((s : ℕ) → rowHas r s ≡ (leb s (Machine.nodes (now (m .entry))) && (within 1 membersMost s && (rowsHas (now (rows .entry)) (i - 1) s || rowsHas (now (rows .entry)) (k - 1) s)))) ⌝ }
 {
     let all = structure::node_row(machine::nodes(m));
     let some = line_row(rows, i as usize).union(line_row(rows, k as usize));
@@ -176,8 +178,8 @@ fn either_row(m: &[u16], rows: &[u64], i: u16, k: u16) -> Row
 pub fn row_of_line(
     m: &[u16],
     r: &[u16],
-    next: &[u64; 512],
-    back: &[u64; 512],
+    next: &[u64; sizes::TABLE_WORDS],
+    back: &[u64; sizes::TABLE_WORDS],
     rows: &[u64],
     j: u16,
 ) -> Row

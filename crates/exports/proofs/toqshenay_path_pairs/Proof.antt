@@ -59,8 +59,19 @@ module _ {M : Type 1} (𝓤 : URA M) (H : Heap 𝓤) (A : Atoms 𝓤) (mem : Mem
 
   module _ (W : Given 𝓤 H A) where
     abbrev ways : Ways 𝓤 H A W (f.ended .signature .params) (f.ended .kept)
-    ways = (shared-slice 𝓤 H A W 6 0 tt u16, (shared-slice 𝓤 H A W 6 1 tt u16, (number 𝓤 H A W 6 w16, (number 𝓤 H A W 6 w16,
-      (given-slice 𝓤 H A W 6 2 tt T.the-row, (given-ref 𝓤 H A W 6 3 tt u16, (given-ref 𝓤 H A W 6 4 tt u16, (given-ref 𝓤 H A W 6 5 tt u16, tt))))))))
+    ways = (
+      shared-slice 𝓤 H A W 6 0 tt u16,
+      (
+        shared-slice 𝓤 H A W 6 1 tt u16,
+        (
+          number 𝓤 H A W 6 w16,
+          (
+            number 𝓤 H A W 6 w16,
+            (given-slice 𝓤 H A W 6 2 tt T.the-row, (given-ref 𝓤 H A W 6 3 tt u16, (given-ref 𝓤 H A W 6 4 tt u16, (given-ref 𝓤 H A W 6 5 tt u16, tt)))),
+          ),
+        ),
+      ),
+    )
 
     path-pairs-meets : (𝓣 : Tables 𝓤 H) → Triple 𝓤 (𝓣 .C #truth·pairs·path) Paths → Triple 𝓤 (𝓣 .C #exports·tell-path) Tell
         → Meets 𝓤 H A f.signature (WpFn 𝓤 H (𝓣 .C) (𝓣 .Λ) code.function) (f.spec 𝓤 H A mem run)
@@ -77,11 +88,22 @@ module _ {M : Type 1} (𝓤 : URA M) (H : Heap 𝓤) (A : Atoms 𝓤) (mem : Mem
         (tt, (tt, (record { fits = are .1 .1 .1 .1 .0 .0 .1 .0 }, tt))) $
         -- [the locals; behind them (30) κm; κr; κ; the places' tokens; m's; r's; list's; the places'; nothing]
         turn ! 30 $ move ! (0 ∷ 1 ∷ 2 ∷ 6 ∷ 7 ∷ 8 ∷ []) $ turn ! 13 $
-        calls-on ! (fmOf 𝓤 H (W .laws) 𝓣) 30 path.ended (path.clauses 𝓤 H A mem run) known-path
-        ((κs .0, (κs .1 .0, (κs .1 .1 .0, tt))), (qs .0, (qs .1 .0, (qs .1 .1 .0, tt))), tt, (xm, (xr, (a .1 .1 .0, (a .1 .1 .1 .0, (x, tt))))),
-        (slice-vals xm, (slice-vals xr, (vint w16 (a .1 .1 .0) ∷ [], (vint w16 (a .1 .1 .1 .0) ∷ [], (slice-vals x, tt)))))) tt
-        (taken, (taken, (made (uint-makes 𝓤 H A W w16 (a .1 .1 .0) _ (are .1 .1 .0)),
-        (made (uint-makes 𝓤 H A W w16 (a .1 .1 .1 .0) _ (are .1 .1 .1 .0)), (taken, tt))))) (id⊢ 𝓤 (emp 𝓤))
+        calls-on ! (fmOf 𝓤 H (W .laws) 𝓣) 30 path.ended (path.clauses 𝓤 H A mem run) known-path (
+          (κs .0, (κs .1 .0, (κs .1 .1 .0, tt))),
+          (qs .0, (qs .1 .0, (qs .1 .1 .0, tt))),
+          tt,
+          (xm, (xr, (a .1 .1 .0, (a .1 .1 .1 .0, (x, tt))))),
+          (slice-vals xm, (slice-vals xr, (vint w16 (a .1 .1 .0) ∷ [], (vint w16 (a .1 .1 .1 .0) ∷ [], (slice-vals x, tt))))),
+        ) tt (
+          taken,
+          (
+            taken,
+            (
+              made (uint-makes 𝓤 H A W w16 (a .1 .1 .0) _ (are .1 .1 .0)),
+              (made (uint-makes 𝓤 H A W w16 (a .1 .1 .1 .0) _ (are .1 .1 .1 .0)), (taken, tt)),
+            ),
+          ),
+        ) (id⊢ 𝓤 (emp 𝓤))
         (λ r zs. PairsAnswer (xm .now) (xr .now) (a .1 .1 .0) (a .1 .1 .1 .0) (x .now) (zs .1 .1 .1 .1 .0) r) (λ r zs. id⊢ 𝓤 _) refl
         (and-then ! (local-of ! refl) (and-then ! (local-of ! refl) (and-then ! (local-of ! refl) (and-then ! (local-of ! refl) (and-then ! (local-of ! refl) (no-more !))))))
         (λ w r zs answered is.

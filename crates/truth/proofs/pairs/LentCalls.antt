@@ -163,13 +163,13 @@ module _ {M : Type 1} {𝓤 : URA M} {H : Heap 𝓤} {A : Atoms 𝓤} {K : Type 
       let pre : SProp 𝓤 = called 𝓤 H A W T c x g hs .pre (x, g) in
       record {
         prf = via 𝓤 (evalOpds 𝓤 H E xs (λ us. C f us after))
-          (os .go (λ us. C f us after)
-          (via 𝓤 (sep 𝓤 pre kept)
-          (via 𝓤 _ (cut-at 𝓤 H A n Φ) (via 𝓤 _ (monoR 𝓤 (⋆ 𝓤 H A (take n Φ)) (subst (λ (Δ : List (Item 𝓤)). ent 𝓤 (⋆ 𝓤 H A (drop n Φ)) (⋆ 𝓤 H A Δ)) e (id⊢ 𝓤 _)))
-          (via 𝓤 _ (monoR 𝓤 (⋆ 𝓤 H A (take n Φ)) (asks 𝓤 H A W T c x g hs asked Γ))
-          (via 𝓤 _ (assoc′ 𝓤 (⋆ 𝓤 H A (take n Φ)) pre (⋆ 𝓤 H A Γ)) (via 𝓤 _ (monoL 𝓤 (⋆ 𝓤 H A Γ) (comm∗ 𝓤 (⋆ 𝓤 H A (take n Φ)) pre)) (assoc∗ 𝓤 pre (⋆ 𝓤 H A (take n Φ)) (⋆ 𝓤 H A Γ)))))))
-          (via 𝓤 _ (monoL 𝓤 kept (met (x, g)))
-          (fm f (passed 𝓤 H A (T .signature) x) (called 𝓤 H A W T c x g hs .post (x, g)) after kept
-          (λ w. hears 𝓤 H A W T c x g hs t Said told {G = lands C Λ E d w rest q} tt (take n Φ) Γ w (k w) .prf)))))
-          (W .laws .⇛-intro _);
+            (os .go (λ us. C f us after)
+            (via 𝓤 (sep 𝓤 pre kept)
+            (via 𝓤 _ (cut-at 𝓤 H A n Φ) (via 𝓤 _ (monoR 𝓤 (⋆ 𝓤 H A (take n Φ)) (subst (λ (Δ : List (Item 𝓤)). ent 𝓤 (⋆ 𝓤 H A (drop n Φ)) (⋆ 𝓤 H A Δ)) e (id⊢ 𝓤 _)))
+            (via 𝓤 _ (monoR 𝓤 (⋆ 𝓤 H A (take n Φ)) (asks 𝓤 H A W T c x g hs asked Γ))
+            (via 𝓤 _ (assoc′ 𝓤 (⋆ 𝓤 H A (take n Φ)) pre (⋆ 𝓤 H A Γ)) (via 𝓤 _ (monoL 𝓤 (⋆ 𝓤 H A Γ) (comm∗ 𝓤 (⋆ 𝓤 H A (take n Φ)) pre)) (assoc∗ 𝓤 pre (⋆ 𝓤 H A (take n Φ)) (⋆ 𝓤 H A Γ)))))))
+            (via 𝓤 _ (monoL 𝓤 kept (met (x, g)))
+            (fm f (passed 𝓤 H A (T .signature) x) (called 𝓤 H A W T c x g hs .post (x, g)) after kept
+            (λ w. hears 𝓤 H A W T c x g hs t Said told {G = lands C Λ E d w rest q} tt (take n Φ) Γ w (k w) .prf)))))
+            (W .laws .⇛-intro _);
       }

@@ -19,7 +19,7 @@ use base.Fml.{Fml}
 use prog.Wp.{Heap, WpFn, Tables}
 use ghost.Atoms.{Atoms, sem}
 use contract.Lifetimes.{Lfts, Shares, AllOutlive}
-use types.Kit.{Given, Item, ‵, raw, ⋆, push, Sq, runs, atRet, !}
+use types.Kit.{Given, Item, ‵, raw, ⋆, push, Sq, runs, atRet, ! }
 use sound.WpLaws.{WpFn-mono}
 use denote.RattleType.{RattleType, Denots, Valss, mirs, flat, owns}
 use denote.Laws.{Is, Ises, Are, Typed, Tells, Spells, valss, Tellss, Lawful, Lawfuls, all-typed}

@@ -87,8 +87,13 @@ module _ {M : Type 1} (𝓤 : URA M) (H : Heap 𝓤) (A : Atoms 𝓤) (mem : Mem
 
   module _ (W : Given 𝓤 H A) where
     abbrev ways : Ways 𝓤 H A W (f.ended .signature .params) (f.ended .kept)
-    ways = (shared-slice 𝓤 H A W 3 0 tt u16, (shared-slice 𝓤 H A W 3 1 tt u16,
-      (number 𝓤 H A W 3 w16, (number 𝓤 H A W 3 w16, (given-slice 𝓤 H A W 3 2 tt T.the-row, tt)))))
+    ways = (
+      shared-slice 𝓤 H A W 3 0 tt u16,
+      (
+        shared-slice 𝓤 H A W 3 1 tt u16,
+        (number 𝓤 H A W 3 w16, (number 𝓤 H A W 3 w16, (given-slice 𝓤 H A W 3 2 tt T.the-row, tt))),
+      ),
+    )
 
     path-meets : (𝓣 : Tables 𝓤 H) → Triple 𝓤 (𝓣 .C #truth·path·make-within) Make → Triple 𝓤 (𝓣 .C #truth·path·length-of) Count
         → Triple 𝓤 (𝓣 .C #truth·pairs·write-pairs) Write → Meets 𝓤 H A f.signature (WpFn 𝓤 H (𝓣 .C) (𝓣 .Λ) code.function) (f.spec 𝓤 H A mem run)
@@ -101,12 +106,31 @@ module _ {M : Type 1} (𝓤 : URA M) (H : Heap 𝓤) (A : Atoms 𝓤) (mem : Mem
         sets ! (of-opd ! (load ! (from ! (fld ! refl (stop !))) (look-in ! 10 (sub ! 1 refl (whole !))))) refl
         (tt, record { fits = are .1 .1 .1 .1 .0 .0 .1 .0 }) $
         turn ! 38 $ move ! (0 ∷ 1 ∷ 3 ∷ 4 ∷ []) $ turn ! 7 $
-        calls-on ! (fmOf 𝓤 H (W .laws) 𝓣) 38 make.ended (make.clauses 𝓤 H A mem run) known-make
-        ((κs .0, (κs .1 .0, tt)), (qs .0, (qs .1 .0, tt)), tt, (a .0, (a .1 .0, (a .1 .1 .0, (a .1 .1 .1 .0, (length ys, tt))))),
-        (sliceVal (a .0 .ptr) (length (a .0 .now)) ∷ [], (sliceVal (a .1 .0 .ptr) (length (a .1 .0 .now)) ∷ [],
-        (vint w16 (a .1 .1 .0) ∷ [], (vint w16 (a .1 .1 .1 .0) ∷ [], (vint w64 (length ys) ∷ [], tt)))))) tt
-        (taken, (taken, (made (uint-makes 𝓤 H A W w16 (a .1 .1 .0) _ (are .1 .1 .0)), (made (uint-makes 𝓤 H A W w16 (a .1 .1 .1 .0) _ (are .1 .1 .1 .0)),
-        (made (uint-makes 𝓤 H A W w64 (length ys) _ (refl, are .1 .1 .1 .1 .0 .0 .1 .0)), tt))))) (id⊢ 𝓤 (emp 𝓤))
+        calls-on ! (fmOf 𝓤 H (W .laws) 𝓣) 38 make.ended (make.clauses 𝓤 H A mem run) known-make (
+          (κs .0, (κs .1 .0, tt)),
+          (qs .0, (qs .1 .0, tt)),
+          tt,
+          (a .0, (a .1 .0, (a .1 .1 .0, (a .1 .1 .1 .0, (length ys, tt))))),
+          (
+            sliceVal (a .0 .ptr) (length (a .0 .now)) ∷ [],
+            (
+              sliceVal (a .1 .0 .ptr) (length (a .1 .0 .now)) ∷ [],
+              (vint w16 (a .1 .1 .0) ∷ [], (vint w16 (a .1 .1 .1 .0) ∷ [], (vint w64 (length ys) ∷ [], tt))),
+            ),
+          ),
+        ) tt (
+          taken,
+          (
+            taken,
+            (
+              made (uint-makes 𝓤 H A W w16 (a .1 .1 .0) _ (are .1 .1 .0)),
+              (
+                made (uint-makes 𝓤 H A W w16 (a .1 .1 .1 .0) _ (are .1 .1 .1 .0)),
+                (made (uint-makes 𝓤 H A W w64 (length ys) _ (refl, are .1 .1 .1 .1 .0 .0 .1 .0)), tt),
+              ),
+            ),
+          ),
+        ) (id⊢ 𝓤 (emp 𝓤))
         (λ r zs. MadeFor (a .0 .now) (a .1 .0 .now) (a .1 .1 .0) (a .1 .1 .1 .0) (min (length ys) 2048) (r .nodes) (r .states) (r .answer)) (λ r zs. id⊢ 𝓤 _) refl
         (and-then ! (local-of ! refl) (and-then ! (local-of ! refl) (and-then ! (local-of ! refl) (and-then ! (local-of ! refl) (and-then ! (local-of ! refl) (no-more !))))))
         (λ w r _ made-for is.
@@ -148,10 +172,13 @@ module _ {M : Type 1} (𝓤 : URA M) (H : Heap 𝓤) (A : Atoms 𝓤) (mem : Mem
         (lends-array 𝓤 H A W w16 2048 (r .states) ss l 2054 (μ ∷ []) (named 2) (array-room w16 (lit< tt, lit< tt) (r .states) ss)) $ await ! tt $ pick ! (λ ε. split ! $
         -- [states'; lent; μ; nodes'; lent; ν; κm; κr; κ; list's; nothing; the locals]
         move ! (8 ∷ 5 ∷ 2 ∷ 9 ∷ 3 ∷ 0 ∷ []) $ turn ! 11 $
-        calls-on ! (fmOf 𝓤 H (W .laws) 𝓣) 38 write.ended (write.clauses 𝓤 H A mem run) known-write
-        ((κ, (ν ∷ [], (μ ∷ [], tt))), (qs .1 .1 .0, (fullShare, (fullShare, tt))), tt,
-        (x, (record { ptr = (l, 0); name = δ; now = r .nodes }, (record { ptr = (l, 2054); name = ε; now = r .states }, (n, tt)))),
-        (sliceVal (x .ptr) (length ys) ∷ [], (sliceVal (l, 0) (length (r .nodes)) ∷ [], (sliceVal (l, 2054) (length (r .states)) ∷ [], (vint w64 n ∷ [], tt))))) tt
+        calls-on ! (fmOf 𝓤 H (W .laws) 𝓣) 38 write.ended (write.clauses 𝓤 H A mem run) known-write (
+          (κ, (ν ∷ [], (μ ∷ [], tt))),
+          (qs .1 .1 .0, (fullShare, (fullShare, tt))),
+          tt,
+          (x, (record { ptr = (l, 0); name = δ; now = r .nodes }, (record { ptr = (l, 2054); name = ε; now = r .states }, (n, tt)))),
+          (sliceVal (x .ptr) (length ys) ∷ [], (sliceVal (l, 0) (length (r .nodes)) ∷ [], (sliceVal (l, 2054) (length (r .states)) ∷ [], (vint w64 n ∷ [], tt)))),
+        ) tt
         (taken, (taken, (taken, (made (uint-makes 𝓤 H A W w64 n _ (refl, n-fits)), tt))))
         (factI 𝓤 _ (emp 𝓤) (count-fits (a .0 .now) (a .1 .0 .now) (a .1 .1 .0) (a .1 .1 .1 .0) ys (r .nodes) (r .states) n (r .answer) made-for counted (ns .1 .0 .1) (ss .1 .0 .1)))
         (λ _ zs. (pairNodes (zs .0) ≡ take n (r .nodes) ++ dropped n (pairNodes ys)) × (pairStates (zs .0) ≡ take n (r .states) ++ dropped n (pairStates ys)))

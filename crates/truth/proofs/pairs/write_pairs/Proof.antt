@@ -216,8 +216,10 @@ module _ {M : Type 1} (𝓤 : URA M) (H : Heap 𝓤) (A : Atoms 𝓤) (mem : Mem
           leaves ! (full _ ∷ full _ ∷ full _ ∷ full _ ∷ full _ ∷ empty ∷ empty ∷ full _ ∷ []) $
           by ! (ends 𝓤 H A W f.ended ways (f.clauses 𝓤 H A mem run) ((κs, ps, tt, a, machine 𝓤 H A W f.ended ways (f.clauses 𝓤 H A mem run) κs a), tt)
           vunit tt (filled (i .0) ns ss ys, (tt, (tt, (tt, tt)))) (filled-length (i .0) ns ss ys, (tt, (tt, (tt, tt))))
-          (factI 𝓤 _ (emp 𝓤) (ap (λ (k : ℕ). pairNodes (filled k ns ss ys)) (ended i over) ∙ nodes-filled n ns ss ys (fits .1 .0) (fits .1 .1) (fits .0),
-          ap (λ (k : ℕ). pairStates (filled k ns ss ys)) (ended i over) ∙ states-filled n ns ss ys (fits .1 .0) (fits .1 .1) (fits .0)))
+          (factI 𝓤 _ (emp 𝓤) (
+            ap (λ (k : ℕ). pairNodes (filled k ns ss ys)) (ended i over) ∙ nodes-filled n ns ss ys (fits .1 .0) (fits .1 .1) (fits .0),
+            ap (λ (k : ℕ). pairStates (filled k ns ss ys)) (ended i over) ∙ states-filled n ns ss ys (fits .1 .0) (fits .1 .1) (fits .0),
+          ))
           (nothing-makes 𝓤 H A W tt (vunit ∷ []) refl)))
         where
           p : Upto → Pair
