@@ -12,8 +12,9 @@ use Rattle.sheets.specs.Positions.{someBelow}
 use Rattle.sheets.specs.Structures.{Automaton}
 use Rattle.sheets.proofs.Tests.{and-left, and-right, and-both, test}
 use Rattle.sheets.proofs.Search.{le-or-gt}
+use Rattle.sheets.proofs.Bits.{no-bit}
 use Rattle.sheets.proofs.Positions.{same-tests, below-split, some-at, some-in}
-use Rattle.truth.specs.Sizes.{positionsMost, tableWords, cell}
+use Rattle.truth.specs.Sizes.{membersMost, positionsMost, tableWords, lowAt, highAt, cell}
 use Rattle.truth.specs.Rows.{held, rowsHas}
 use Rattle.truth.specs.Pairs.{NoRow}
 use Rattle.truth.specs.Links.{Joined}
@@ -25,19 +26,26 @@ use Rattle.truth.proofs.product.ValuationRows.{row-inside, row-at}
 
 -- ---- one mask
 
+-- it draws nothing
+mask-still : (table : List ℕ) (mask p k : ℕ) (allow into onto : List ℕ) → ((s : ℕ) → Drawn table mask s → ⊥) → NoRow allow (cell p k)
+    → MaskSet table mask p k allow into onto allow into onto
+mask-still table mask p k allow into onto still none = record {
+  size = refl;
+  here = λ s. (λ x. absurd (none s x), λ d. absurd (still s d));
+  other = λ q s n. refl;
+  enters = λ t l m n g. g;
+  leaves = λ t l m n g. g;
+}
+
+pub mask-zero : (table : List ℕ) (mask p k : ℕ) (allow into onto : List ℕ) → mask ≡ 0 → NoRow allow (cell p k) → MaskSet table mask p k allow into onto allow into onto
+mask-zero table mask p k allow into onto e = mask-still table mask p k allow into onto (λ s d. no-bit (d .0) (rw e at (d .1)))
+
 module _ (table : List ℕ) (mask p k : ℕ) (few : p < positionsMost) (few′ : k < positionsMost) (allow : List ℕ) (size : length allow ≡ tableWords) (into onto : List ℕ) (a b : ℕ)
     (row : (s : ℕ) → T (held a b s) ↔ Drawn table mask s) where
-  -- it draws nothing
-  pub mask-none : NoRow allow (cell p k) → true ≡ each 128 (λ s. not (held a b s)) → MaskSet table mask p k allow into onto allow into onto
-  mask-none none e = record {
-    size = refl;
-    here = λ s. (λ x. absurd (none s x), λ d. absurd (none-passes (held a b) (held-in a b) (sym e) s (row s .1 d)));
-    other = λ q s n. refl;
-    enters = λ t l m n g. g;
-    leaves = λ t l m n g. g;
-  }
+  pub mask-none : NoRow allow (cell p k) → true ≡ each membersMost (λ s. not (held a b s)) → MaskSet table mask p k allow into onto allow into onto
+  mask-none none e = mask-still table mask p k allow into onto (λ s d. none-passes (held a b) (held-in a b) (sym e) s (row s .1 d)) none
 
-  pub mask-more : (allow′ into′ onto′ : List ℕ) → allow′ ≡ set (set allow (2 * (cell p k)) a) (2 * (cell p k) + 1) b → Joined k (p + 1) into into′
+  pub mask-more : (allow′ into′ onto′ : List ℕ) → allow′ ≡ set (set allow (lowAt (cell p k)) a) (highAt (cell p k)) b → Joined k (p + 1) into into′
       → Joined p (k + 1) onto onto′ → MaskSet table mask p k allow into onto allow′ into′ onto′
   mask-more allow′ into′ onto′ e to from = record {
     size = rw e (stored-length allow (cell p k) a b fits);
@@ -47,7 +55,7 @@ module _ (table : List ℕ) (mask p k : ℕ) (few : p < positionsMost) (few′ :
     leaves = λ t l m n g. linked-more cell g allow′ p k n l other (λ i j x y q. (omega arith, omega arith)) from;
   }
     where
-      fits : 2 * (cell p k) + 1 < length allow
+      fits : highAt (cell p k) < length allow
       fits = rw size (omega arith)
 
       other : (q s : ℕ) → (q ≡ cell p k → ⊥) → rowsHas allow′ q s ≡ rowsHas allow q s
