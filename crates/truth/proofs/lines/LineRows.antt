@@ -19,6 +19,7 @@ use Rattle.sheets.proofs.Search.{within-in}
 use Rattle.sheets.proofs.AcceptedMachine.{nodes-sized}
 use Rattle.sheets.proofs.FormedLines as FormedLines
 use Rattle.sheets.proofs.PositionedStates.{positioned-named}
+use Rattle.truth.specs.Sizes.{membersMost}
 use Rattle.truth.specs.Rows.{rowsHas}
 use Rattle.truth.specs.Truth.{SomePath as PathFrom, Means}
 use Rattle.truth.specs.Labelling.{rowTruths}
@@ -29,9 +30,9 @@ use Rattle.truth.proofs.tables.RowBits.{row-bit}
 use Rattle.truth.proofs.lines.DecodedKinds.{meant, line-meant, none-malformed, refers}
 
 -- of the nodes 1 to n, those that pass a test
-pub nodes-passing : {n m : ℕ} → n ≡ m → {all : ℕ → Bool} → ((s : ℕ) → all s ≡ (leb s n && within 1 128 s)) → {row : ℕ → Bool} (f g : ℕ → Bool)
-    → ((s : ℕ) → row s ≡ (all s && f s)) → ((s : ℕ) → f s ≡ g s) → (s : ℕ) → row s ≡ (leb s m && (within 1 128 s && g s))
-nodes-passing {n} {m} e {all} allIs {row} f g is same s = rw (is s, allIs s, e, same s) (and-assoc (leb s m) (within 1 128 s) (g s))
+pub nodes-passing : {n m : ℕ} → n ≡ m → {all : ℕ → Bool} → ((s : ℕ) → all s ≡ (leb s n && within 1 membersMost s)) → {row : ℕ → Bool} (f g : ℕ → Bool)
+    → ((s : ℕ) → row s ≡ (all s && f s)) → ((s : ℕ) → f s ≡ g s) → (s : ℕ) → row s ≡ (leb s m && (within 1 membersMost s && g s))
+nodes-passing {n} {m} e {all} allIs {row} f g is same s = rw (is s, allIs s, e, same s) (and-assoc (leb s m) (within 1 membersMost s) (g s))
 
 -- a path line, with accepting and non-accepting states exchanged or not
 abbrev pathLine : Bool → ℕ → Line
@@ -76,13 +77,13 @@ module _ {M R next back rows : List ℕ} {j : ℕ} (pre : LineReady M R next bac
 
   module _ {row : ℕ → Bool} where
     -- a row of those of the nodes that pass a test, where the test is the line's meaning
-    among-nodes : (l : Line) → decoded R j ≡ Formed l → (f : ℕ → Bool) → ((s : ℕ) → row s ≡ (leb s (nodes M) && (within 1 128 s && f s)))
-        → ((s : ℕ) → 1 ≤ s → s ≤ 128 → T (f s) ↔ Means (kripke M) (automaton R) (rowTruths rows) (meant R j l) s) → LineRow M R rows j row
+    among-nodes : (l : Line) → decoded R j ≡ Formed l → (f : ℕ → Bool) → ((s : ℕ) → row s ≡ (leb s (nodes M) && (within 1 membersMost s && f s)))
+        → ((s : ℕ) → 1 ≤ s → s ≤ membersMost → T (f s) ↔ Means (kripke M) (automaton R) (rowTruths rows) (meant R j l) s) → LineRow M R rows j row
     among-nodes l e f is means = record {
       truth = λ s lo hi.
-          let small : s ≤ 128 = omega (arith, nodes-sized M (pre .ready .machine) .1) in
+          let small : s ≤ membersMost = omega (arith, nodes-sized M (pre .ready .machine) .1) in
           let a = passed (leb s (nodes M)) (le→leb s (nodes M) hi) in
-          let b = passed (within 1 128 s) (within-in 1 128 s lo small) in
+          let b = passed (within 1 membersMost s) (within-in 1 membersMost s lo small) in
           rw (line-meant R j l e, is s, a, b) (means s lo small);
       clear = λ s over.
           let a = failed (leb s (nodes M)) (not-T (leb s (nodes M)) (λ t. let h = leb→le s (nodes M) t in absurd (omega arith))) in
@@ -90,19 +91,19 @@ module _ {M R next back rows : List ℕ} {j : ℕ} (pre : LineReady M R next bac
     }
 
     pub signal-row : {i : ℕ} → decoded R j ≡ Formed (Signal i)
-        → ((s : ℕ) → row s ≡ (leb s (nodes M) && (within 1 128 s && signalAt M i s))) → LineRow M R rows j row
+        → ((s : ℕ) → row s ≡ (leb s (nodes M) && (within 1 membersMost s && signalAt M i s))) → LineRow M R rows j row
     unfolding Means kripke
     signal-row {i} e is = among-nodes (Signal i) e (signalAt M i) is (λ s lo hi. (λ t. t, λ t. t))
 
     pub negation-row : {k : ℕ} → decoded R j ≡ Formed (Negation k)
-        → ((s : ℕ) → row s ≡ (leb s (nodes M) && (within 1 128 s && not (rowsHas rows (k - 1) s)))) → LineRow M R rows j row
+        → ((s : ℕ) → row s ≡ (leb s (nodes M) && (within 1 membersMost s && not (rowsHas rows (k - 1) s)))) → LineRow M R rows j row
     unfolding Means
     negation-row {k} e is =
         among-nodes (Negation k) e (λ s. not (rowsHas rows (k - 1) s)) is
         (λ s lo hi. rw (row-bit rows k s lo hi) (let b = not-is (rowsHas rows (k - 1) s) in (b .1, b .0)))
 
     pub either-row : {i k : ℕ} → decoded R j ≡ Formed (Either i k)
-        → ((s : ℕ) → row s ≡ (leb s (nodes M) && (within 1 128 s && (rowsHas rows (i - 1) s || rowsHas rows (k - 1) s)))) → LineRow M R rows j row
+        → ((s : ℕ) → row s ≡ (leb s (nodes M) && (within 1 membersMost s && (rowsHas rows (i - 1) s || rowsHas rows (k - 1) s)))) → LineRow M R rows j row
     unfolding Means
     either-row {i} {k} e is =
         among-nodes (Either i k) e (λ s. rowsHas rows (i - 1) s || rowsHas rows (k - 1) s) is

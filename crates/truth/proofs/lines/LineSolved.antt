@@ -2,7 +2,7 @@
 -- through the tables that comes back shows such a path.
 use mathlib.Core.Path.{_≡_, refl, sym, subst}
 use mathlib.Core.Logic.{_↔_, Iff·rfl, Iff·trans}
-use Prim.Native.Nat.{ℕ, suc, _+_, _-_, _*_, _≤_, _<_}
+use Prim.Native.Nat.{ℕ, suc, _+_, _-_, _≤_, _<_}
 use native.Mathlib.Omega.{arith}
 use native.Mathlib.Decide.{le-ind}
 use mathlib.Core.List.{List}
@@ -15,6 +15,7 @@ use Rattle.sheets.specs.Sound.{MoveUnder, Sound}
 use Rattle.sheets.proofs.Tests.{and-right, and-both, dec-test, passed}
 use Rattle.sheets.proofs.Search.{within-in}
 use Rattle.sheets.proofs.AcceptedMachine.{nodes-sized, edge-stays}
+use Rattle.truth.specs.Sizes.{membersMost, cell}
 use Rattle.truth.specs.Truth.{Valuation, SomePath}
 use Rattle.truth.specs.Labelling.{rowBit, rowTruths}
 use Rattle.truth.specs.Rows.{rowsHas}
@@ -39,18 +40,18 @@ module _ (M : List ℕ) (machine-ok : machineRefusal M ≡ 0) (A : Automaton) (t
 
   -- ---- nodes and edges
 
-  node-small : (s : ℕ) → s ≤ nodes M → s ≤ 128
+  node-small : (s : ℕ) → s ≤ nodes M → s ≤ membersMost
   node-small s h = omega (arith, nodes-sized M machine-ok .1)
 
   node-all : (s : ℕ) → 1 ≤ s → s ≤ nodes M → T (nodeSet M s)
-  node-all s a b = and-both (leb s (nodes M)) (within 1 128 s) (le→leb s (nodes M) b) (within-in 1 128 s a (node-small s b))
+  node-all s a b = and-both (leb s (nodes M)) (within 1 membersMost s) (le→leb s (nodes M) b) (within-in 1 membersMost s a (node-small s b))
 
   edges : (s u : ℕ) → 1 ≤ s → s ≤ nodes M → T (edgeIn next s u) ↔ T (kripke M .edge s u)
   edges s u a b = (
-    λ e. and-right (within 1 128 u) (kripke M .edge s u) (rw (nextIs s u a b) at e),
+    λ e. and-right (within 1 membersMost u) (kripke M .edge s u) (rw (nextIs s u a b) at e),
     λ e.
         let r = edge-stays M machine-ok s a b u e in
-        rw (nextIs s u a b) (and-both (within 1 128 u) (kripke M .edge s u) (within-in 1 128 u (r .0) (node-small u (r .1))) e),
+        rw (nextIs s u a b) (and-both (within 1 membersMost u) (kripke M .edge s u) (within-in 1 membersMost u (r .0) (node-small u (r .1))) e),
   )
 
   stays : (s u : ℕ) → 1 ≤ s → s ≤ nodes M → T (edgeIn next s u) → (1 ≤ u) × (u ≤ nodes M)
@@ -62,7 +63,7 @@ module _ (M : List ℕ) (machine-ok : machineRefusal M ≡ 0) (A : Automaton) (t
   value s = valued (rowTruths rows) (A .variables) arg s (λ i l. dec-test (rowBit rows (arg i) s))
 
   goes-as : (s w : ℕ) → 1 ≤ s → s ≤ nodes M → Valuation (rowTruths rows) (A .variables) arg s w → (p p′ : ℕ) → p < t → p′ < t
-      → rowsHas allow (16 * p + p′) s ≡ A .goes (p + 1) w (p′ + 1)
+      → rowsHas allow (cell p p′) s ≡ A .goes (p + 1) w (p′ + 1)
   unfolding Valuation
   goes-as s w a b v p p′ l l′ =
       allowed .goes p p′ s w l l′ (v .0)

@@ -16,6 +16,7 @@ use Rattle.sheets.specs.Tabled.{Tabled}
 use Rattle.sheets.specs.declared.position.ByPosition.{ByPosition}
 use Rattle.sheets.proofs.Tests.{and-left, failed}
 use Rattle.sheets.proofs.PositionedStates.{positioned-sound, positioned-first, few-positions, few-valued}
+use Rattle.truth.specs.Sizes.{positionsMost, membersMost, tableRows}
 use Rattle.truth.specs.Rows.{held, rowsHas}
 use Rattle.truth.specs.Pairs.{UpTo, Transposed, Least, Greatest}
 use Rattle.truth.specs.Product.{argument, good, Allowed, GoodRows}
@@ -27,7 +28,7 @@ use Rattle.truth.proofs.lines.LineSolved.{line-solved}
 
 module _ (M : List ℕ) (A : Automaton) (t : ℕ) (next rows : List ℕ) (arg : ℕ → ℕ) (exchanged : Bool) where
   all-node : (s : ℕ) → T (nodeSet M s) → s ≤ nodes M
-  all-node s a = leb→le s (nodes M) (and-left (leb s (nodes M)) (within 1 128 s) a)
+  all-node s a = leb→le s (nodes M) (and-left (leb s (nodes M)) (within 1 membersMost s) a)
 
   goods-up : (goods : List ℕ) → GoodRows A t (nodeSet M) exchanged goods → UpTo (nodes M) t goods
   goods-up goods goodRows p s l g = all-node s (and-left (nodeSet M s) (good exchanged A (p + 1)) (rw (goodRows .row p s l) at g))
@@ -36,7 +37,7 @@ module _ (M : List ℕ) (A : Automaton) (t : ℕ) (next rows : List ℕ) (arg : 
   pub solved-line : (back : List ℕ) → Transposed (nodes M) next back → (u : ℕ) → u ≡ t → (all : ℕ → Bool) → ((s : ℕ) → all s ≡ nodeSet M s)
       → (allow goods xs ys times : List ℕ) → Allowed A u rows arg all allow → GoodRows A u all exchanged goods
       → ((n : ℕ) → Transposed n next back → UpTo n u goods → Greatest allow next u goods xs)
-      → ((n : ℕ) (next : List ℕ) → Transposed n next back → UpTo n 256 allow → UpTo n u xs → Least allow next u xs ys times)
+      → ((n : ℕ) (next : List ℕ) → Transposed n next back → UpTo n tableRows allow → UpTo n u xs → Least allow next u xs ys times)
       → SolvedLine M A t next rows arg exchanged allow xs ys times
   solved-line back transposed u e all allIs allow goods xs ys times a g tr gr =
       let a′ : Allowed A t rows arg (nodeSet M) allow = subst (λ (f : ℕ → Bool). Allowed A t rows arg f allow) (fun-ext allIs) (rw e at a) in
@@ -44,7 +45,7 @@ module _ (M : List ℕ) (A : Automaton) (t : ℕ) (next rows : List ℕ) (arg : 
       let up = goods-up goods g′ in
       let great = rw e at (tr (nodes M) transposed (rw (← e) at up)) in
       let kept : UpTo (nodes M) t xs = λ p s l a. up p s l (great .fewer p s l a) in
-      let inside : UpTo (nodes M) 256 allow = λ k s l a. all-node s (a′ .inside k s a) in
+      let inside : UpTo (nodes M) tableRows allow = λ k s l a. all-node s (a′ .inside k s a) in
       record {
         goods = goods;
         allowed = a′;
@@ -54,14 +55,14 @@ module _ (M : List ℕ) (A : Automaton) (t : ℕ) (next rows : List ℕ) (arg : 
       }
 
   module _ (allow xs ys times : List ℕ) (solved : SolvedLine M A t next rows arg exchanged allow xs ys times) where
-    pub allow-up : UpTo (nodes M) 256 allow
+    pub allow-up : UpTo (nodes M) tableRows allow
     allow-up k s l a = all-node s (solved .allowed .inside k s a)
 
     pub lasting-up : UpTo (nodes M) t xs
     lasting-up p s l a = goods-up (solved .goods) (solved .goodRows) p s l (solved .greatest .fewer p s l a)
 
     -- no node past the last at the initial position
-    clear-at : t ≤ 16 → 0 < t → (s : ℕ) → nodes M < s → rowsHas ys 0 s ≡ false
+    clear-at : t ≤ positionsMost → 0 < t → (s : ℕ) → nodes M < s → rowsHas ys 0 s ≡ false
     clear-at few some s l =
         failed (rowsHas ys 0 s) (not-T (rowsHas ys 0 s) (λ y.
         let u = reaches-up allow next t (nodes M) xs few allow-up lasting-up some (solved .least .reaches 0 s some y) in
@@ -73,7 +74,7 @@ module _ {M R next back rows : List ℕ} {j x : ℕ} (path : PathReady M R next 
   pub path-sound : Sound (positioned R x) (stateCount R x)
   path-sound = positioned-sound lent R (path .ready .rules) x (path .from) (path .to)
 
-  pub states-few : stateCount R x ≤ 16
+  pub states-few : stateCount R x ≤ positionsMost
   states-few = few-positions R (path .ready .rules) x (path .from) (path .to)
 
   -- there is a position

@@ -9,12 +9,13 @@ use Rattle.sheets.specs.Words.{within}
 use Rattle.sheets.specs.Machine.{nodes, kripke, machineRefusal}
 use Rattle.sheets.specs.Rules.{lent, ruleRefusal}
 use Rattle.sheets.proofs.AcceptedMachine.{nodes-sized}
+use Rattle.truth.specs.Sizes.{membersMost, tableRows}
 use Rattle.truth.specs.Rows.{rowsHas}
 use Rattle.truth.specs.OneLine.{Ready}
 
 pub ready : (M R next back : List ℕ) (n : ℕ) → n ≡ nodes M → machineRefusal M ≡ 0 → ruleRefusal lent R ≡ 0
-    → ((s u : ℕ) → 1 ≤ s → s ≤ nodes M → s ≤ 256 → rowsHas next (s - 1) u ≡ (within 1 128 u && kripke M .edge s u))
-    → ((s u : ℕ) → 1 ≤ u → u ≤ n → rowsHas back (u - 1) s ≡ (leb s n && (within 1 128 s && rowsHas next (s - 1) u)))
+    → ((s u : ℕ) → 1 ≤ s → s ≤ nodes M → s ≤ tableRows → rowsHas next (s - 1) u ≡ (within 1 membersMost u && kripke M .edge s u))
+    → ((s u : ℕ) → 1 ≤ u → u ≤ n → rowsHas back (u - 1) s ≡ (leb s n && (within 1 membersMost s && rowsHas next (s - 1) u)))
     → Ready M R next back
 ready M R next back n e machine rules successors predecessors = record {
   machine = machine;

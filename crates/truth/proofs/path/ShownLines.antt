@@ -10,11 +10,13 @@ use mathlib.Core.Bool.{Bool, true, false, not}
 use borrow.Author.Tests.{not-true, not-false}
 use lib.ListN.{getD}
 use lib.Dec.{T}
+use Rattle.sheets.specs.Format.{nodesMost}
 use Rattle.sheets.specs.Machine.{nodes, kripke}
 use Rattle.sheets.specs.Rules.{lent, automaton}
 use Rattle.sheets.specs.Positioned.{stateCount, stateOf, positioned}
 use Rattle.sheets.proofs.AcceptedMachine.{nodes-sized}
 use Rattle.sheets.proofs.PositionedStates.{positioned-first, positioned-named}
+use Rattle.truth.specs.Sizes.{positionsMost, pairsMost}
 use Rattle.truth.specs.Rows.{held}
 use Rattle.truth.specs.Labelling.{rowTruths}
 use Rattle.truth.specs.Product.{argument, good}
@@ -45,10 +47,10 @@ module _ {M R next back rows : List ℕ} {j x : ℕ} (path : PathReady M R next 
     had : T b
     had = subst T (sym (not-false b some)) tt
 
-    few : t ≤ 16
+    few : t ≤ positionsMost
     few = rw counts (states-few path)
 
-    few-nodes : n ≤ 128
+    few-nodes : n ≤ nodesMost
     few-nodes = rw counted (nodes-sized M (path .ready .machine) .1)
 
     pub traceable : Timed times → Traceable allow next t n xs ys times s
@@ -66,7 +68,7 @@ module _ {M R next back rows : List ℕ} {j x : ℕ} (path : PathReady M R next 
 
     module _ (list positions : List ℕ) {len turn : ℕ} (walk : Looped allow next t n xs s (placed list) (placed positions) len turn) where
       -- the list has room, and its positions are few enough
-      pub list-fits : (len ≤ 2048) × ((i : ℕ) → i < len → getD positions i 0 < 16)
+      pub list-fits : (len ≤ pairsMost) × ((i : ℕ) → i < len → getD positions i 0 < positionsMost)
       list-fits = (
         omega (arith, mul-le-mul few-nodes few, walk .fits),
         λ i l. let e : suc i - 1 ≡ i = omega arith in let b = rw e at (walk .below (suc i) (omega arith) l) in omega (arith, few),

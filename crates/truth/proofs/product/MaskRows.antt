@@ -6,6 +6,7 @@ use native.Mathlib.Omega.{arith}
 use mathlib.Core.List.{List}
 use mathlib.Core.Bool.{Bool}
 use lib.Dec.{T}
+use Rattle.sheets.specs.Format.{wordBits}
 use Rattle.sheets.specs.Words.{bit}
 use Rattle.sheets.proofs.Search.{le-or-gt}
 use Rattle.sheets.proofs.BitLaws.{bit-none, bit-above}
@@ -14,13 +15,13 @@ use Rattle.truth.specs.Pairs.{Before}
 use Rattle.truth.specs.Product.{Drawn}
 use Rattle.truth.proofs.rows.RowLaws.{held-in, held-low, held-high}
 
-module _ (mask : ℕ) (word : mask < 2 ^ 16) where
+module _ (mask : ℕ) (word : mask < 2 ^ wordBits) where
   -- a mask has no bit above the sixteenth
-  few-bits : (w : ℕ) → T (bit mask w) → w < 16
-  few-bits w b = ⊎-elim (λ le. absurd (rw (bit-above 16 mask w word le) at b)) (λ lt. lt) (le-or-gt 16 w)
+  few-bits : (w : ℕ) → T (bit mask w) → w < wordBits
+  few-bits w b = ⊎-elim (λ le. absurd (rw (bit-above wordBits mask w word le) at b)) (λ lt. lt) (le-or-gt wordBits w)
 
   abbrev Member : ℕ → Type 0
-  Member u = (1 ≤ u) × ((u ≤ 16) × T (bit mask (u - 1)))
+  Member u = (1 ≤ u) × ((u ≤ wordBits) × T (bit mask (u - 1)))
 
   pub mask-members : (u : ℕ) → T (held mask 0 u) ↔ Member u
   mask-members u = (to, λ m. rw (held-low mask 0 u (m .0) (omega (arith, m .1 .0))) (m .1 .1))

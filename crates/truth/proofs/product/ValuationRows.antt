@@ -8,6 +8,7 @@ use native.Mathlib.Omega.{arith}
 use mathlib.Core.Bool.{Bool, true, false, not, _&&_, and-true, and-assoc}
 use lib.Pow.{pow-mono}
 use lib.Dec.{T}
+use Rattle.sheets.specs.Format.{variablesMost, wordBits}
 use Rattle.sheets.specs.Words.{bit}
 use Rattle.sheets.specs.Positions.{someBelow}
 use Rattle.sheets.proofs.Tests.{and-left, and-right, and-both}
@@ -15,11 +16,12 @@ use Rattle.sheets.proofs.Search.{le-or-gt}
 use Rattle.sheets.proofs.Bits.{bits-same}
 use Rattle.sheets.proofs.BitLaws.{one-shifted}
 use Rattle.sheets.proofs.Positions.{same-tests, some-at, some-in}
+use Rattle.truth.specs.Sizes.{positionsMost}
 use Rattle.truth.specs.Product.{same, agrees}
 
 -- the numbers of valuations of v variables: `1 << v` of them
-pub valuations : (v : ℕ) → v ≤ 4 → ((1 * 2 ^ v) % 2 ^ 16 ≡ 2 ^ v) × (2 ^ v ≤ 16)
-valuations v h = (one-shifted 16 v (omega arith), pow-mono h)
+pub valuations : (v : ℕ) → v ≤ variablesMost → ((1 * 2 ^ v) % 2 ^ wordBits ≡ 2 ^ v) × (2 ^ v ≤ positionsMost)
+valuations v h = (one-shifted wordBits v (omega arith), pow-mono h)
 
 -- ---- one bit more
 

@@ -3,6 +3,7 @@ use borrow.Author.Needs.{needs}
 use mathlib.Core.Path.{refl}
 use native.Mathlib.Omega.{arith}
 use Rattle.sheets.specs.Positioned.{stateCount, stateOf, positioned}
+use Rattle.truth.specs.Sizes.{tableWords}
 use Rattle.truth.proofs.tables.TableLaws.{zero-word, zero-row}
 use Rattle.truth.proofs.lines.PathRows.{states-few, solvable, path-row-of}
 use Rattle.truth.proofs.lines.path_row.Statement.{statement}
@@ -18,7 +19,7 @@ solve-with-requires : tie.Need-solve-with-requires
 solve-with-requires c κs =
     let tabled = c .before .before in
     let start = tabled .before .before .before .before in
-    (solvable (start .pre) (tabled .by-position .result) (tabled .by-position .ensures), refl, λ p s x. rw (zero-row 512 p s) at x, zero-word 1)
+    (solvable (start .pre) (tabled .by-position .result) (tabled .by-position .ensures), refl, λ p s x. rw (zero-row tableWords p s) at x, zero-word 1)
 
 load-requires : tie.Need-load-requires
 load-requires c κs = omega arith

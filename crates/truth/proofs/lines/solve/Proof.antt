@@ -1,6 +1,7 @@
 -- `solve` meets its contract: the tables that it lends are empty.
 use borrow.Author.Needs.{needs}
 use mathlib.Core.Path.{refl}
+use Rattle.truth.specs.Sizes.{tableWords, pairsMost}
 use Rattle.truth.proofs.tables.TableLaws.{zero-word, zero-row}
 use Rattle.truth.proofs.lines.solve.Statement.{statement}
 use Rattle.truth.proofs.lines.solve.Tie as tie
@@ -9,7 +10,7 @@ slice-aggregate-solve-with : tie.Need-slice-aggregate-solve-with
 slice-aggregate-solve-with c = search needs
 
 solve-with-requires : tie.Need-solve-with-requires
-solve-with-requires c κs = (c .before .before .before .before .before .pre, refl, λ p s x. rw (zero-row 512 p s) at x, zero-word 2048)
+solve-with-requires c κs = (c .before .before .before .before .before .pre, refl, λ p s x. rw (zero-row tableWords p s) at x, zero-word pairsMost)
 
 returns : tie.Need-returns
 returns c = c .before .before .before .solve-with .ensures

@@ -1,11 +1,12 @@
 -- `solve_with` meets its contract: the tables are those of the line.
 use borrow.Author.Needs.{needs}
 use mathlib.Core.Path.{refl, ap, _∙_}
-use Prim.Native.Nat.{ℕ, _+_, _*_}
+use Prim.Native.Nat.{ℕ}
 use native.Mathlib.Omega.{arith}
 use mathlib.Core.Bool.{_&&_}
 use lib.Dec.{leb}
 use Rattle.sheets.specs.Words.{within}
+use Rattle.truth.specs.Sizes.{membersMost, cell, setWords}
 use Rattle.truth.specs.Rows.{rowHas}
 use Rattle.truth.specs.Product.{argument}
 use Rattle.truth.proofs.tables.TableLaws.{zero-row}
@@ -35,8 +36,8 @@ allow-table-requires c κs =
       pre .0 .arguments,
       pre .1,
       pre .2,
-      linked-none (λ k q. 16 * q + k) _ _ _ refl (pre .2) (λ p s x. rw (zero-row 32 p s) at x),
-      linked-none (λ p q. 16 * p + q) _ _ _ refl (pre .2) (λ p s x. rw (zero-row 32 p s) at x),
+      linked-none (λ k q. cell q k) _ _ _ refl (pre .2) (λ p s x. rw (zero-row setWords p s) at x),
+      linked-none cell _ _ _ refl (pre .2) (λ p s x. rw (zero-row setWords p s) at x),
     )
 
 good-table-requires : tie.Need-good-table-requires
@@ -72,7 +73,7 @@ returns c A t name is =
     let start = row-start row in
     let a = start .args in
     solved-line (a .m .now) A t (a .next .now) (a .rows .now) (argument (a .r .now) (a .j)) (a .exchanged) (a .back .now) (start .pre .0 .predecessors) _ (is .count)
-    (rowHas (row .node-row .result)) (λ s. row .node-row .ensures s ∙ ap (λ (n : ℕ). leb s n && within 1 128 s) (row .before .nodes .ensures)) _ _ _ _ _
+    (rowHas (row .node-row .result)) (λ s. row .node-row .ensures s ∙ ap (λ (n : ℕ). leb s n && within 1 membersMost s) (row .before .nodes .ensures)) _ _ _ _ _
     (allowed .allow-table .ensures .0 A (is .variables) (λ p q w l h. is .goes p q w (omega (arith, l, is .count)) (omega (arith, h, is .count))))
     (made .good-table .ensures A (λ p l. is .accepting p (omega (arith, l, is .count)))) (trimmed .trim .ensures) (grown .grow .ensures)
 

@@ -5,6 +5,7 @@ use mathlib.Core.Path.{_≡_}
 use native.Mathlib.Omega.{arith}
 use lib.ListN.{length}
 use Rattle.sheets.specs.Positioned.{stateCount, stateOf, positioned}
+use Rattle.truth.specs.Sizes.{pairsMost}
 use Rattle.truth.specs.Pairs.{Timed}
 use Rattle.truth.specs.Product.{argument}
 use Rattle.truth.specs.OneLine.{SolvedLine}
@@ -36,7 +37,7 @@ line c =
 
 -- there is room for every time
 timed : (c : tie.After-solve) → Timed (c .solve .result .times)
-timed c = let long : length (c .solve .result .times) ≡ 2048 = search needs in omega arith
+timed c = let long : length (c .solve .result .times) ≡ pairsMost = search needs in omega arith
 
 by-position-requires : tie.Need-by-position-requires
 by-position-requires c κs = states-few (c .before .before .before .pre .0)

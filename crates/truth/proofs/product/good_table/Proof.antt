@@ -5,6 +5,7 @@ use Prim.Native.Nat.{ℕ, _-_, _≤_}
 use native.Mathlib.Omega.{arith}
 use mathlib.Core.Bool.{Bool, _&&_}
 use Rattle.sheets.specs.Words.{bit}
+use Rattle.truth.specs.Sizes.{setWords}
 use Rattle.truth.specs.Rows.{rowHas}
 use Rattle.truth.specs.Product.{turned}
 use Rattle.truth.specs.declared.rows.Row.{Row}
@@ -17,7 +18,7 @@ abbrev Has : Row → ℕ → Bool → ℕ → ℕ → Bool → Type 0
 Has all accepting exchanged p s b = b ≡ (rowHas all s && turned exchanged (bit accepting p))
 
 abbrev Inv-loop : tie.InvT-loop
-Inv-loop all t accepting exchanged out₀ p₀ out p = (p ≤ t) × Filled 32 (Has all accepting exchanged) p out
+Inv-loop all t accepting exchanged out₀ p₀ out p = (p ≤ t) × Filled setWords (Has all accepting exchanged) p out
 
 abbrev μ-loop : tie.MeasureT-loop
 μ-loop all t accepting exchanged out₀ p₀ out p = t - p

@@ -1,10 +1,11 @@
 -- `valuation_table` meets its contract. The invariant: the rows below w have the nodes of their valuations. The measure is the number of those left.
 use borrow.Author.Needs.{needs}
 use mathlib.Core.Path.{_≡_}
-use Prim.Native.Nat.{ℕ, _+_, _-_, _*_, _^_, _≤_, _<_}
+use Prim.Native.Nat.{ℕ, _-_, _^_, _≤_, _<_}
 use native.Mathlib.Omega.{arith}
 use mathlib.Core.List.{List}
 use mathlib.Core.Bool.{Bool, _&&_}
+use Rattle.truth.specs.Sizes.{highAt, setWords}
 use Rattle.truth.specs.Rows.{rowHas}
 use Rattle.truth.specs.Pairs.{NoRow}
 use Rattle.truth.specs.Product.{agrees, argument, argumentAt}
@@ -19,7 +20,7 @@ abbrev Valued : List ℕ → List ℕ → Row → ℕ → ℕ → ℕ → ℕ �
 Valued r rows all j v w s b = b ≡ (rowHas all s && agrees v w (argumentAt rows (argument r j) s))
 
 abbrev Inv-loop : tie.InvT-loop
-Inv-loop r rows all j v out₀ most w₀ out w = (w ≤ most) × Filled 32 (Valued r rows all j v) w out × ((i : ℕ) → w ≤ i → NoRow out i)
+Inv-loop r rows all j v out₀ most w₀ out w = (w ≤ most) × Filled setWords (Valued r rows all j v) w out × ((i : ℕ) → w ≤ i → NoRow out i)
 
 abbrev μ-loop : tie.MeasureT-loop
 μ-loop r rows all j v out₀ most w₀ out w = most - w
@@ -28,7 +29,7 @@ shl-most : tie.Need-shl-most Inv-loop μ-loop
 shl-most c = omega arith
 
 loop-holds : tie.Need-loop-holds Inv-loop μ-loop
-loop-holds c = (omega arith, filled-none _ _ (search needs), λ i l s x. rw (zero-row 32 i s) at x)
+loop-holds c = (omega arith, filled-none _ _ (search needs), λ i l s x. rw (zero-row setWords i s) at x)
 
 valuation-row-requires : tie.Need-valuation-row-requires Inv-loop μ-loop
 valuation-row-requires c κs = search needs
@@ -53,7 +54,7 @@ loop-again c =
     let at = c .before .before .before .before .loop in
     let v = valuations (a .v) (omega arith) in
     let valued = Valued (a .r .now) (a .rows .now) (a .all) (a .j) (a .v) in
-    let few : 2 * at .w + 1 < 32 = omega (arith, v .0, v .1) in (
+    let few : highAt (at .w) < setWords = omega (arith, v .0, v .1) in (
       omega arith,
       filled-more valued (at .out) _ (at .w) _ _ (at .inv .1) few (c .store .ensures) (c .before .before .valuation-row .ensures),
       empty-after (at .out) _ (at .w) _ _ (omega (arith, few, at .inv .1 .size)) (c .store .ensures) (at .inv .2),
