@@ -1,16 +1,16 @@
 -- A list of lines that refer only to lines above and to signals 1 to a makes a sheet that is accepted, and is over a signals.
-use mathlib.Core.Path.{_≡_, refl, sym, subst, subst₂, _∙_}
+use mathlib.Core.Path.{_≡_, refl, sym, subst, _∙_}
 use Prim.Native.Nat.{ℕ, _+_, _-_, _*_, _≤_, _<_}
 use native.Mathlib.Omega.{arith}
 use mathlib.Core.List.{List, [], _∷_}
-use mathlib.Core.Bool.{Bool, not, _&&_, _||_, and-true}
+use mathlib.Core.Bool.{Bool, _&&_, and-true}
 use lib.ListN.{length, getD}
 use lib.Dec.{T, leb, le→leb, eqb, eqb-refl}
-use Rattle.truth.specs.Passed.{lent, lifted, within, each, variables, automata, lines, lineWord, lineFits, pathFits, refersAbove, unused, ruleRefusal, overSignals, q7, q8, q9, q10, q11, q12, q13, q14, q15, signalsMost, linesMost, lineWords, nextHead}
+use Rattle.truth.specs.Passed.{lent, lifted, within, each, variables, automata, lines, lineWord, lineFits, pathFits, refersAbove, unused, line, ruleRefusal, signalMost, overSignals, q7, q8, q9, q10, q11, q12, q13, q14, q15, signalsMost, linesMost, lineWords, nextHead}
 use Rattle.comparison.specs.Comparison.{Rule}
 use Rattle.truth.proofs.Passed.{and-both, within-in, each-in, rule-accepted, fifteen-same, over-same}
 use Rattle.comparison.specs.Lines.{Entry, sig, neg, alt, next, words, sheet, entry, Refers, Downward}
-use Rattle.comparison.proofs.Lines.{padded, length-sheet, word-is}
+use Rattle.comparison.proofs.Lines.{padded, length-sheet, word-is, decoded, line-is}
 
 module _ (ls : List Entry) (j : ℕ) where
   unused-is : (l : Entry) → entry ls j ≡ l → (c : ℕ) → c ≤ lineWords → ((k : ℕ) → c ≤ k → getD (words l) k 0 ≡ 0) → T (unused (lifted lineWords) (sheet ls) j c)
@@ -58,20 +58,19 @@ module _ (ls : List Entry) (j : ℕ) where
   fits-line a small r =
       subst (λ (x : ℕ). T (lineFits (lifted lineWords) (sheet ls) j x)) (sym (word-is ls j (entry ls j) refl 0 (omega arith))) (fits-by a small (entry ls j) refl r)
 
-  over-by : (a : ℕ) (l : Entry) → Refers a j l → T (not (eqb (getD (words l) 0 0) 0) || leb (getD (words l) 1 0) a)
-  unfolding Refers words
-  over-by a (sig i) r = le→leb i a (r .1)
-  over-by a (neg i) r = tt
-  over-by a (alt i k) r = tt
-  over-by a (next i) r = tt
+  over-by : (arg : ℕ → ℕ) (a : ℕ) (l : Entry) → Refers a j l → T (signalMost a (decoded arg l))
+  unfolding Refers decoded signalMost
+  over-by arg a (sig i) r = le→leb i a (r .1)
+  over-by arg a (neg i) r = tt
+  over-by arg a (alt i k) r = tt
+  over-by arg a (next i) r = tt
 
 module _ (a : ℕ) (ls : List Entry) (down : Downward a ls) where
   over-logic : T (overSignals (lifted lineWords) a (sheet ls))
   unfolding overSignals lines sheet
   over-logic =
-      each-in (length ls) (λ j. not (eqb (lineWord (lifted lineWords) (sheet ls) j 0) 0) || leb (lineWord (lifted lineWords) (sheet ls) j 1) a) (λ j lo hi.
-      subst₂ (λ (x y : ℕ). T (not (eqb x 0) || leb y a)) (sym (word-is ls j (entry ls j) refl 0 (omega arith)))
-      (sym (word-is ls j (entry ls j) refl 1 (omega arith))) (over-by ls j a (entry ls j) (down .refers j lo hi)))
+      each-in (length ls) (λ j. signalMost a (line (lifted lineWords) (sheet ls) j))
+      (λ j lo hi. subst (λ l. T (signalMost a l)) (sym (line-is ls j)) (over-by ls j _ a (entry ls j) (down .refers j lo hi)))
 
   fifteen-logic : T (q15 (lifted lineWords) (sheet ls))
   unfolding q15 lines sheet

@@ -12,6 +12,7 @@ use crate::writing::write_next;
 use crate::writing::write_not;
 use crate::writing::write_or;
 use crate::writing::write_signal;
+use truth::header;
 
 const PLACES: u16 = sizes::LINE_PLACES as u16;
 
@@ -53,9 +54,9 @@ fn line_at(words: &[u16; sizes::WRITTEN_SPACE], i: u16) -> Line
     let x = words[k + 1];
     let y = words[k + 2];
     match op {
-        0 => Line::Signal(x),
-        1 => Line::Not(x),
-        2 => Line::Or(x, y),
+        header::SIGNAL => Line::Signal(x),
+        header::NEGATION => Line::Not(x),
+        header::EITHER => Line::Or(x, y),
         _ => Line::Next(y),
     }
 }

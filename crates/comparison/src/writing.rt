@@ -7,6 +7,7 @@ ghost use Rattle.truth.specs.Passed.{lineWords};
 ghost use Rattle.comparison.specs.Sizes.{writtenSpace, writtenMost};
 ghost use Rattle.comparison.specs.Lines.{sig, neg, alt, next, signalLines, firstLines, split, HoldsLines, Adds};
 use crate::sizes;
+use truth::header;
 
 // The words of line n + 1, of which the last three are always 0.
 fn write_words(out: &mut [u16; sizes::WRITTEN_SPACE], n: u16, op: u16, x: u16, y: u16)
@@ -27,7 +28,7 @@ pub fn write_signal(out: &mut [u16; sizes::WRITTEN_SPACE], n: u16, i: u16)
     requires { ⌜ (n < writtenMost) × (length (now out) ≡ writtenSpace) ⌝ }
     ensures { λ r. ⌜ Adds (now (out .entry)) (now (out .exit)) n (sig i ∷ []) ⌝ }
 {
-    write_words(out, n, 0, i, 0)
+    write_words(out, n, header::SIGNAL, i, 0)
 }
 
 // Not line j.
@@ -35,7 +36,7 @@ pub fn write_not(out: &mut [u16; sizes::WRITTEN_SPACE], n: u16, j: u16)
     requires { ⌜ (n < writtenMost) × (length (now out) ≡ writtenSpace) ⌝ }
     ensures { λ r. ⌜ Adds (now (out .entry)) (now (out .exit)) n (neg j ∷ []) ⌝ }
 {
-    write_words(out, n, 1, j, 0)
+    write_words(out, n, header::NEGATION, j, 0)
 }
 
 // Line i or line j.
@@ -43,7 +44,7 @@ pub fn write_or(out: &mut [u16; sizes::WRITTEN_SPACE], n: u16, i: u16, j: u16)
     requires { ⌜ (n < writtenMost) × (length (now out) ≡ writtenSpace) ⌝ }
     ensures { λ r. ⌜ Adds (now (out .entry)) (now (out .exit)) n (alt i j ∷ []) ⌝ }
 {
-    write_words(out, n, 2, i, j)
+    write_words(out, n, header::EITHER, i, j)
 }
 
 // Some next node has line j.
@@ -51,7 +52,7 @@ pub fn write_next(out: &mut [u16; sizes::WRITTEN_SPACE], n: u16, j: u16)
     requires { ⌜ (n < writtenMost) × (length (now out) ≡ writtenSpace) ⌝ }
     ensures { λ r. ⌜ Adds (now (out .entry)) (now (out .exit)) n (next j ∷ []) ⌝ }
 {
-    write_words(out, n, 3, 1, j)
+    write_words(out, n, header::SOME_PATH, 1, j)
 }
 
 // Lines 1 to a: the signals.

@@ -4,9 +4,8 @@ use sheets::format;
 use sheets::lines;
 use sheets::lines::Decoded;
 use sheets::lines::Line;
-use sheets::rules;
 
-// A line as the comparison writes them; the one automaton is Next, whose line is word 2 of the record.
+// A line as the comparison writes them; the one automaton is Next, which has one line.
 pub enum Says {
     Signal(u16),
     Not(u16),
@@ -25,7 +24,7 @@ pub fn meaning(rule: &[u16], j: u16) -> Says {
         Line::Signal(i) => Says::Signal(i),
         Line::Negation(k) => Says::Not(k),
         Line::Either(i, k) => Says::Or(i, k),
-        Line::SomePath(_) => Says::Next(rules::line_word(rule, j, 2)),
+        Line::SomePath(p) => Says::Next(p.first),
         Line::SomePathNot(_) => Says::Other,
     }
 }

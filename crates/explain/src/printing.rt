@@ -66,10 +66,10 @@ fn print_meaning(rule: &[u16], j: u16) {
         Line::Signal(i) => print_signal(i),
         Line::Negation(k) => print_negation(k),
         Line::Either(i, k) => print_either(i, k),
-        Line::SomePath(_) => print_next(b"some next node has line ", rules::line_word(rule, j, 2)),
-        Line::SomePathNot(_) => print_next(
+        Line::SomePath(p) => print_next(b"some next node has line ", p.first),
+        Line::SomePathNot(p) => print_next(
             b"some next node does not have line ",
-            rules::line_word(rule, j, 2),
+            p.first,
         ),
     }
 }

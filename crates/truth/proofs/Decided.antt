@@ -14,7 +14,7 @@ use Rattle.sheets.proofs.Tests.{dec-test, dec-fun, dec-sum}
 use Rattle.sheets.proofs.Search.{dec-each}
 use Rattle.sheets.proofs.AcceptedMachine.{edge-stays, start-node}
 use Rattle.sheets.proofs.AcceptedRule.{some-line}
-use Rattle.sheets.proofs.FormedLines.{Formed, formed, over-sixteen}
+use Rattle.sheets.proofs.FormedLines.{Formed, formed, over-most}
 use Rattle.sheets.proofs.PositionedStates.{positioned-sound, positioned-named}
 use Rattle.sheets.specs.Format.{signalsMost}
 use Rattle.truth.specs.Truth.{Truths, SomePath, Means, TrueAt, Keeps}
@@ -59,7 +59,7 @@ module _ (F : Form) (M R : List ℕ) (machine-ok : machineRefusal M ≡ 0) (rule
   decided (suc f) j le lo hi s a b =
       Dec·of-iff (Iff·symm (truth-recursion F M R rule-ok j s lo hi))
       (line-decided (TrueAt F M R) j (λ i l k. decided f i (omega arith) l (omega arith)) s a b (line F R j)
-      (formed F R rule-ok signalsMost (over-sixteen F R rule-ok) j lo hi))
+      (formed F R rule-ok signalsMost (over-most F R rule-ok) j lo hi))
 
   pub truth-decided : (j s : ℕ) → 1 ≤ j → j ≤ lines R → 1 ≤ s → s ≤ nodes M → Dec (TrueAt F M R j s)
   truth-decided j s lo hi a b = decided j j (omega arith) lo hi s a b

@@ -196,7 +196,7 @@ pub fn row_of_line(
         Line::Signal(i) => structure::signal_row(m, i),
         Line::Negation(k) => negation_row(m, rows, k),
         Line::Either(i, k) => either_row(m, rows, i, k),
-        Line::SomePath(x) => path_row(m, r, next, back, rows, j, x, false),
-        Line::SomePathNot(x) => path_row(m, r, next, back, rows, j, x, true),
+        Line::SomePath(p) => path_row(m, r, next, back, rows, j, p.automaton, false),
+        Line::SomePathNot(p) => path_row(m, r, next, back, rows, j, p.automaton, true),
     }
 }

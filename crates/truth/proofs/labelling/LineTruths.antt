@@ -12,7 +12,7 @@ use Rattle.sheets.specs.Words.{word}
 use Rattle.sheets.specs.Machine.{nodes, kripke, machineRefusal}
 use Rattle.sheets.specs.Rules.{lent, automata, automaton, line, lines, ruleRefusal}
 use Rattle.sheets.proofs.AcceptedMachine.{nodes-sized, edge-stays}
-use Rattle.sheets.proofs.FormedLines.{formed, over-sixteen}
+use Rattle.sheets.proofs.FormedLines.{formed, over-most}
 use Rattle.sheets.proofs.Search.{le-or-gt}
 use Rattle.sheets.specs.Format.{nodesMost}
 use Rattle.truth.specs.Sizes.{membersMost}
@@ -48,7 +48,7 @@ module _ (M R : List ℕ) (machine : machineRefusal M ≡ 0) (rules : ruleRefusa
   line-true P j lo hi above s l h =
       Iff·trans
       (line-agrees 16 (kripke M) (kripke M) Same same-nodes (automata R) (automaton R) (λ i s. T (P i s)) (TrueAt lent M R) j
-      (λ i l h s t b. rw (← b .0) (above i s l h (b .1 .0) (b .1 .1))) (line lent R j) (formed lent R rules 16 (over-sixteen lent R rules) j lo hi) s s (refl, (l, h)))
+      (λ i l h s t b. rw (← b .0) (above i s l h (b .1 .0) (b .1 .1))) (line lent R j) (formed lent R rules 16 (over-most lent R rules) j lo hi) s s (refl, (l, h)))
       (Iff·symm (truth-recursion lent M R rules j s lo hi))
 
   -- one row more: line k is the next, and its row's two words are stored
