@@ -1,21 +1,17 @@
--- The answer to two sheets and to the bytes of standard input, from what comparison and the cut of the input say.
-use mathlib.Core.Path.{_≡_, refl, sym, ap, _∙_}
-use Prim.Native.Nat.{ℕ, _≤_}
+-- The answer to two sheets, from what comparison says.
+use mathlib.Core.Path.{_≡_}
+use Prim.Native.Nat.{ℕ}
 use native.Mathlib.Omega.{arith}
 use mathlib.Core.List.{List}
-use mathlib.Core.Bool.{true, false, true≢false}
 use lib.ListN.{length}
-use Rattle.truth.specs.Passed.{firstNo}
-use Rattle.input.specs.Bytes.{readable, wordsOf}
-use Rattle.input.specs.Cut.{firstSheet, secondSheet}
-use Rattle.comparison.specs.Comparison as Comparison
-use Rattle.comparison.specs.CompareAnswers.{comparisonQuestions, refusalOf, Leaves, CompareAnswer}
+use Rattle.comparison.specs.CompareAnswers.{refusalOf, Leaves, CompareAnswer}
 use Rattle.comparison.specs.declared.compare.Answer.{Answer}
 use Rattle.comparison.specs.declared.compare.Answer.the-variants.{Refused, Equal, Unequal}
 use Rattle.comparison.proofs.Outcome.{never-both}
-use Rattle.compare.specs.Program.{refusal, Compared, Answered}
+use Rattle.input.specs.Limits.{ruleWords}
+use Rattle.compare.specs.Program.{refusal, Compared}
 
-module _ (M₁ M₂ before after : List ℕ) (room : length before ≡ 5505) where
+module _ (M₁ M₂ before after : List ℕ) (room : length before ≡ ruleWords) where
   by-answer : (answer : Answer) → refusalOf answer ≡ refusal M₁ M₂ → Leaves M₁ M₂ before after answer → Compared M₁ M₂ answer
   unfolding Leaves
   by-answer (Refused q i) e l = record {
@@ -40,11 +36,3 @@ module _ (M₁ M₂ before after : List ℕ) (room : length before ≡ 5505) whe
   pub compared : (answer : Answer) → CompareAnswer M₁ M₂ before after answer → Compared M₁ M₂ answer
   unfolding refusal
   compared answer c = by-answer answer (rw room at (c .refusal)) (c .leaves)
-
-module _ (bytes : List ℕ) where
-  pub unread : readable 20000 (length bytes) ≡ false → Answered bytes (Refused 0 0)
-  unread other = record { refused = λ e. refl; compared = λ e. absurd (true≢false (sym e ∙ other)) }
-
-  pub read : readable 20000 (length bytes) ≡ true → (answer : Answer) → Compared (firstSheet (wordsOf bytes)) (secondSheet (wordsOf bytes)) answer
-      → Answered bytes answer
-  read ok answer c = record { refused = λ e. absurd (true≢false (sym ok ∙ e)); compared = λ e. c }

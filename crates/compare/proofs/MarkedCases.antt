@@ -2,7 +2,7 @@
 -- comparison answers, in any space that is large enough; of (a) also what the program prints; of (e) and (f) where the lines are true, that
 -- the sheets are accepted, and what labelling answers: its rows, kept, count and percent.
 use mathlib.Core.Path.{_≡_, refl}
-use Prim.Native.Nat.{ℕ, _+_, _*_, _≤_}
+use Prim.Native.Nat.{ℕ, _+_, _≤_}
 use native.Mathlib.Omega.{arith}
 use mathlib.Core.List.{List, _++_}
 use mathlib.Core.Bool.{true, false}
@@ -23,15 +23,17 @@ use Rattle.comparison.proofs.Decides.{Decides, decides}
 use Rattle.comparison.proofs.MarkedMachines.{case-a, case-b, case-c, case-d}
 use Rattle.text.specs.declared.line.Line.{Line}
 use Rattle.input.specs.Bytes.{bytesOf}
+use Rattle.input.specs.Lines.{text}
+use Rattle.input.specs.Limits.{nodesMost, ruleSpace}
 use Rattle.compare.specs.Program.{lineBytes, Printed}
-use Rattle.compare.proofs.PrintedLines.{text, case-a as printed-a}
+use Rattle.compare.proofs.PrintedLines.{case-a as printed-a}
 
 abbrev Answers : (M₁ M₂ : List ℕ) → Answer → Type 0
 Answers M₁ M₂ x =
-    (before after : List ℕ) (answer : Answer) → 33 + 6 * (signals M₁ + 7 * (nodes M₁ + nodes M₂)) ≤ length before → CompareAnswer M₁ M₂ before after answer → answer ≡ x
+    (before after : List ℕ) (answer : Answer) → ruleSpace (signals M₁) (nodes M₁ + nodes M₂) ≤ length before → CompareAnswer M₁ M₂ before after answer → answer ≡ x
 
-module _ (M₁ M₂ : List ℕ) (ok₁ : machineRefusal M₁ ≡ 0) (ok₂ : machineRefusal M₂ ≡ 0) (alike : signals M₁ ≡ signals M₂) (few : nodes M₁ + nodes M₂ ≤ 128) where
-  decided : (before after : List ℕ) (answer : Answer) → 33 + 6 * (signals M₁ + 7 * (nodes M₁ + nodes M₂)) ≤ length before → CompareAnswer M₁ M₂ before after answer
+module _ (M₁ M₂ : List ℕ) (ok₁ : machineRefusal M₁ ≡ 0) (ok₂ : machineRefusal M₂ ≡ 0) (alike : signals M₁ ≡ signals M₂) (few : nodes M₁ + nodes M₂ ≤ nodesMost) where
+  decided : (before after : List ℕ) (answer : Answer) → ruleSpace (signals M₁) (nodes M₁ + nodes M₂) ≤ length before → CompareAnswer M₁ M₂ before after answer
       → Decides M₁ M₂ answer
   decided before after answer room =
       decides M₁ M₂ before after
@@ -61,6 +63,7 @@ pub record Marked : Type 0 where
   pub j : machineRefusal ExtraSignal ≡ 3
   pub k : percent 1 8 ≡ 13
 
+-- end result
 pub marked : Marked
 unfolding nodes signals word
 marked =

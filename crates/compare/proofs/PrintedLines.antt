@@ -5,17 +5,19 @@ use mathlib.Core.Logic.{_↔_, by-cases}
 use Prim.Native.Nat.{ℕ, _+_, _%_, _≤_}
 use native.Mathlib.Omega.{arith}
 use native.Mathlib.Decide.{decLe, ℕ-discrete}
-use mathlib.Core.List.{List, [], _∷_, _++_}
-use mathlib.Core.Bool.{Bool, true, false}
-use lib.ListN.{length, take}
+use mathlib.Core.List.{List, _++_}
+use mathlib.Core.Bool.{true, false}
+use lib.ListN.{length}
 use Rattle.truth.specs.Passed.{M1, M2, Refusal, none as noRefusal, machineQuestions, machineRefusal, nodes, signals, word}
-use Rattle.truth.proofs.Passed.{first-has, signals-sized, machine-cases}
-use Rattle.text.specs.Lines.{Holds}
+use Rattle.truth.proofs.Passed.{signals-sized, machine-cases}
 use Rattle.text.specs.declared.line.Line.{Line}
 use Rattle.text.proofs.HeldLines.{held-text}
+use Rattle.input.specs.Limits.{nodesMost, machinesBytes, ruleWords}
 use Rattle.input.specs.Bytes.{readable, wordsOf, bytesOf}
 use Rattle.input.specs.Cut.{firstSheet, secondSheet}
-use Rattle.input.specs.Lines.{refusedLine}
+use Rattle.input.specs.Lines.{text, refusedLine}
+use Rattle.input.proofs.Passed.{first-has}
+use Rattle.input.proofs.Cuts.{by-reply}
 use Rattle.input.proofs.JoinedSheets.{joined-readable, joined-first, joined-second}
 use Rattle.input.proofs.WorkedInput.{input-cases}
 use Rattle.comparison.specs.Comparison as Comparison
@@ -24,7 +26,7 @@ use Rattle.comparison.specs.declared.compare.Answer.{Answer}
 use Rattle.comparison.specs.declared.compare.Answer.the-variants.{Refused, Equal, Unequal}
 use Rattle.comparison.proofs.CompareTable.{by-first, by-second, by-last, by-signals, by-nodes, by-none, compared, refuses-nothing}
 use Rattle.comparison.proofs.MarkedMachines as Machines
-use Rattle.compare.specs.Program.{lineBytes, refusal, Compared, Answered, Printed}
+use Rattle.compare.specs.Program.{lineBytes, refusal, Compared, Printed}
 
 -- ---- question 22
 
@@ -34,29 +36,30 @@ unfolding machineRefusal machineQuestions
 one-to-six M refused = first-has (λ k i. k ≤ 6) (machineQuestions 1 M) (omega arith) refused
 
 module _ (M₁ M₂ : List ℕ) where
-  -- the space is enough for two accepted sheets with few nodes together: 33 + 6 × (16 + 7 × 128)
+  -- the space is enough for two accepted sheets with few nodes together
   last-no : machineRefusal M₁ ≡ 0 → machineRefusal M₂ ≡ 0 → refusal M₁ M₂ .number ≡ 22 → ⊥
   unfolding refusal
   last-no ok₁ ok₂ e =
-      let last = by-last M₁ M₂ 5505 0 (sym ok₁) refl 0 (sym ok₂) refl in
+      let last = by-last M₁ M₂ ruleWords 0 (sym ok₁) refl 0 (sym ok₂) refl in
       by-cases (ℕ-discrete (signals M₁) (signals M₂))
-      (λ same. by-cases (decLe (nodes M₁ + nodes M₂) 128)
-      (λ few. let most = signals-sized M₁ ok₁ .1 in omega (arith, last 0 (by-none M₁ M₂ 5505 same few (omega arith)) .0))
-      (λ many. omega (arith, last 21 (by-nodes M₁ M₂ 5505 same (omega arith)) .0)))
-      (λ other. omega (arith, last 20 (by-signals M₁ M₂ 5505 other) .0))
+      (λ same. by-cases (decLe (nodes M₁ + nodes M₂) nodesMost)
+      (λ few. let most = signals-sized M₁ ok₁ .1 in omega (arith, last 0 (by-none M₁ M₂ ruleWords same few (omega arith)) .0))
+      (λ many. omega (arith, last 21 (by-nodes M₁ M₂ ruleWords same (omega arith)) .0)))
+      (λ other. omega (arith, last 20 (by-signals M₁ M₂ ruleWords other) .0))
 
+  -- end result
   pub never-22 : refusal M₁ M₂ .number ≡ 22 → ⊥
   unfolding refusal
   never-22 e =
       by-cases (ℕ-discrete (machineRefusal M₁) 0)
       (λ ok₁. by-cases (ℕ-discrete (machineRefusal M₂) 0) (λ ok₂. last-no ok₁ ok₂ e)
-      (λ n. let few = one-to-six M₂ n in omega (arith, by-second M₁ M₂ 5505 0 (sym ok₁) refl (machineRefusal M₂) refl n .0)))
-      (λ n. let few = one-to-six M₁ n in omega (arith, by-first M₁ M₂ 5505 (machineRefusal M₁) refl n .0))
+      (λ n. let few = one-to-six M₂ n in omega (arith, by-second M₁ M₂ ruleWords 0 (sym ok₁) refl (machineRefusal M₂) refl n .0)))
+      (λ n. let few = one-to-six M₁ n in omega (arith, by-first M₁ M₂ ruleWords (machineRefusal M₁) refl n .0))
 
 -- ---- which answer
 
 module _ (M₁ M₂ : List ℕ) where
-  pub refused-answer : (answer : Answer) → Compared M₁ M₂ answer → 1 ≤ refusal M₁ M₂ .number
+  refused-answer : (answer : Answer) → Compared M₁ M₂ answer → 1 ≤ refusal M₁ M₂ .number
       → answer ≡ Refused (refusal M₁ M₂ .number) (refusal M₁ M₂ .sheet)
   unfolding refusalOf noRefusal
   refused-answer (Refused q i) c some = rw (← c .asked)
@@ -64,13 +67,13 @@ module _ (M₁ M₂ : List ℕ) where
   refused-answer Unequal c some = absurd (omega (arith, ap (λ (r : Refusal). r .number) (c .asked)))
 
   module _ (accepted : refusal M₁ M₂ .number ≡ 0) where
-    pub equal-answer : (answer : Answer) → Compared M₁ M₂ answer → Comparison.Equal M₁ M₂ → answer ≡ Equal
+    equal-answer : (answer : Answer) → Compared M₁ M₂ answer → Comparison.Equal M₁ M₂ → answer ≡ Equal
     unfolding refusalOf
     equal-answer (Refused q i) c same = absurd (omega (arith, ap (λ (r : Refusal). r .number) (c .asked), c .refused q i refl))
     equal-answer Equal c same = refl
     equal-answer Unequal c same = absurd (c .unequal refl same)
 
-    pub unequal-answer : (answer : Answer) → Compared M₁ M₂ answer → (Comparison.Equal M₁ M₂ → ⊥) → answer ≡ Unequal
+    unequal-answer : (answer : Answer) → Compared M₁ M₂ answer → (Comparison.Equal M₁ M₂ → ⊥) → answer ≡ Unequal
     unfolding refusalOf
     unequal-answer (Refused q i) c other = absurd (omega (arith, ap (λ (r : Refusal). r .number) (c .asked), c .refused q i refl))
     unequal-answer Equal c other = absurd (other (c .equal refl))
@@ -85,10 +88,6 @@ is-equal Unequal e = let z : _≡_ {A = ℕ} 117 101 = cc in absurd (omega arith
 
 -- ---- which line
 
--- the bytes of a line that are written
-abbrev pub text : Line → List ℕ
-text line = take (line .len) (line .bytes)
-
 module _ (bytes : List ℕ) where
   abbrev first : List ℕ
   first = firstSheet (wordsOf bytes)
@@ -98,72 +97,67 @@ module _ (bytes : List ℕ) where
 
   -- for every input one line
   pub record Lines (line : Line) : Type 0 where
-    pub unreadable : readable 20000 (length bytes) ≡ false → text line ≡ refusedLine 0 0
-    pub refused : readable 20000 (length bytes) ≡ true → 1 ≤ refusal first second .number
+    pub unreadable : readable machinesBytes (length bytes) ≡ false → text line ≡ refusedLine 0 0
+    pub refused : readable machinesBytes (length bytes) ≡ true → 1 ≤ refusal first second .number
         → text line ≡ refusedLine (refusal first second .number) (refusal first second .sheet)
-    pub equal : readable 20000 (length bytes) ≡ true → refusal first second .number ≡ 0 → Comparison.Equal first second
+    pub equal : readable machinesBytes (length bytes) ≡ true → refusal first second .number ≡ 0 → Comparison.Equal first second
         → text line ≡ lineBytes Equal
-    pub unequal : readable 20000 (length bytes) ≡ true → refusal first second .number ≡ 0 → (Comparison.Equal first second → ⊥)
+    pub unequal : readable machinesBytes (length bytes) ≡ true → refusal first second .number ≡ 0 → (Comparison.Equal first second → ⊥)
         → text line ≡ lineBytes Unequal
 
   -- what `equal` says of the input
   pub record EqualSheets : Type 0 where
-    pub taken : readable 20000 (length bytes) ≡ true
+    pub taken : readable machinesBytes (length bytes) ≡ true
     pub one : machineRefusal first ≡ 0
     pub two : machineRefusal second ≡ 0
     pub same : signals first ≡ signals second
-    pub few : nodes first + nodes second ≤ 128
+    pub few : nodes first + nodes second ≤ nodesMost
     pub equal : Comparison.Equal first second
 
   module _ (line : Line) (p : Printed bytes line) where
     said : text line ≡ lineBytes (p .answer)
     said = held-text line (lineBytes (p .answer)) (p .held)
 
+    -- end result
     pub which-line : Lines line
     unfolding lineBytes
     which-line = record {
       unreadable = λ e. said ∙ ap lineBytes (p .answered .refused e);
-      refused = λ ok some. said ∙ ap lineBytes (refused-answer first second (p .answer) (p .answered .compared ok) some);
-      equal = λ ok none same. said ∙ ap lineBytes (equal-answer first second none (p .answer) (p .answered .compared ok) same);
-      unequal = λ ok none other. said ∙ ap lineBytes (unequal-answer first second none (p .answer) (p .answered .compared ok) other);
+      refused = λ ok some. said ∙ ap lineBytes (refused-answer first second (p .answer) (p .answered .answered ok) some);
+      equal = λ ok none same. said ∙ ap lineBytes (equal-answer first second none (p .answer) (p .answered .answered ok) same);
+      unequal = λ ok none other. said ∙ ap lineBytes (unequal-answer first second none (p .answer) (p .answered .answered ok) other);
     }
 
-    -- an answer "equal" came from readable bytes
-    equal-taken : p .answer ≡ Equal → (taken : Bool) → readable 20000 (length bytes) ≡ taken → readable 20000 (length bytes) ≡ true
-    equal-taken e true ok = ok
-    equal-taken e false other =
-        let r = p .answered .refused other in
-        let z : _≡_ {A = ℕ} 0 1 = cc in
-        absurd (omega arith)
+    equal-sheets : readable machinesBytes (length bytes) ≡ true → Compared first second (p .answer) → p .answer ≡ Equal → EqualSheets
+    unfolding refusal refusalOf noRefusal
+    equal-sheets ok c e =
+        let none : 0 ≡ refusal first second .number = ap (λ (r : Refusal). r .number) (rw e at (c .asked)) in
+        let k = compared first second ruleWords none in
+        record { taken = ok; one = k .first; two = k .second; same = k .same; few = k .few; equal = c .equal e }
 
     says-equal : p .answer ≡ Equal → EqualSheets
-    unfolding refusal refusalOf noRefusal
-    says-equal e =
-        let ok = equal-taken e (readable 20000 (length bytes)) refl in
-        let c = p .answered .compared ok in
-        let none : 0 ≡ refusal first second .number = ap (λ (r : Refusal). r .number) (rw e at (c .asked)) in
-        let k = compared first second 5505 none in
-        record { taken = ok; one = k .first; two = k .second; same = k .same; few = k .few; equal = c .equal e }
+    says-equal e = by-reply (p .answered) (λ other r. let z : _≡_ {A = ℕ} 0 1 = cc in absurd (omega arith)) (λ ok c. equal-sheets ok c e)
 
     equal-said : EqualSheets → text line ≡ lineBytes Equal
     unfolding refusal
     equal-said s =
         let most = signals-sized first (s .one) .1 in
         let few = s .few in
-        let none = refuses-nothing first second 5505 (record { first = s .one; second = s .two; same = s .same; few = s .few; enough = omega arith }) in
+        let none = refuses-nothing first second ruleWords (record { first = s .one; second = s .two; same = s .same; few = s .few; enough = omega arith }) in
         which-line .equal (s .taken) none (s .equal)
 
+    -- end result
     pub equal-exactly : (text line ≡ lineBytes Equal) ↔ EqualSheets
     equal-exactly = (λ e. says-equal (is-equal (p .answer) (sym said ∙ e)), equal-said)
 
--- ---- two files, each of them an accepted machine sheet, one after the other: the line of the answer to the two
+-- ---- two files, each of them an accepted machine sheet, one after the other: the line of the answer to the two; end result
 
 pub files-compared : (first second : List ℕ) → length first % 2 ≡ 0 → length second % 2 ≡ 0
     → machineRefusal (wordsOf first) ≡ 0 → machineRefusal (wordsOf second) ≡ 0
     → (line : Line) → Printed (first ++ second) line
     → (answer : Answer) × Compared (wordsOf first) (wordsOf second) answer × (text line ≡ lineBytes answer)
 files-compared first second even₁ even₂ ok₁ ok₂ line p =
-    let c = p .answered .compared (joined-readable first second even₁ even₂ ok₁ ok₂) in
+    let c = p .answered .answered (joined-readable first second even₁ even₂ ok₁ ok₂) in
     let one = joined-first first second even₁ even₂ ok₁ ok₂ in
     let two = joined-second first second even₁ even₂ ok₁ ok₂ in
     (p .answer, rw (one, two) at c, said (first ++ second) line p)

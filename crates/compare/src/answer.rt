@@ -4,7 +4,7 @@ ghost use Rattle.compare.specs.Program.{lineBytes, Compared, Answered, P
 use comparison::compare;
 use comparison::compare::Answer;
 use input::cut;
-use input::cut::Cut;
+use input::limits;
 use input::line;
 use text::line::Line;
 
@@ -12,7 +12,7 @@ use text::line::Line;
 fn compare_sheets(first: &[u16], second: &[u16]) -> Answer
     ensures { λ r. ⌜ Compared (now (first .entry)) (now (second .entry)) r ⌝ }
 {
-    let mut space = [0u16; 5505];
+    let mut space = [0u16; limits::RULE_WORDS];
     compare::compare(first, second, &mut space)
 }
 
@@ -20,18 +20,15 @@ fn compare_sheets(first: &[u16], second: &[u16]) -> Answer
 fn answer_to(input: &[u8]) -> Answer
     ensures { λ r. ⌜ Answered (now (input .entry)) r ⌝ }
 {
-    let mut words = [0u16; 10000];
+    let mut words = [0u16; limits::MACHINES_WORDS];
     let cut = cut::sheets_of(input, &mut words);
-    match cut {
-        Cut::Unreadable => Answer::Refused {
+    if cut.refused {
+        return Answer::Refused {
             question: 0,
             sheet: 0,
-        },
-        Cut::Sheets { end, count } => {
-            let both = &words[..count];
-            compare_sheets(&both[..end], &both[end..])
-        }
+        };
     }
+    compare_sheets(cut::first(&words, cut), cut::second(&words, cut))
 }
 
 // The line of an answer.

@@ -4,9 +4,10 @@ use Prim.Native.Nat.{ℕ, _+_, _-_, _*_, _≤_, _<_}
 use native.Mathlib.Omega.{arith}
 use mathlib.Core.List.{List, [], _∷_, _++_}
 use lib.ListN.{length, getD, drop, length-append}
-use Rattle.truth.specs.Passed.{none, firstNo, nodes, signals}
+use Rattle.truth.specs.Passed.{none, firstNo, nodes, signals, nodesMost, lineWords, nextHead}
 use Rattle.truth.specs.Rows.{rowsHas}
 use Rattle.truth.proofs.Passed.{nodes-sized}
+use Rattle.comparison.specs.Sizes.{writtenSpace, writtenMost}
 use Rattle.comparison.specs.Lines.{Entry, neg, sheet, Downward, HoldsLines, Adds}
 use Rattle.comparison.specs.Needed.{Shortened, Listed}
 use Rattle.comparison.specs.Refinement.{LinesIn}
@@ -33,7 +34,7 @@ module _ (M₁ M₂ before : List ℕ) where
     pub known : Compared M₁ M₂ (length before)
     known = compared M₁ M₂ (length before) e
 
-    pub small : (nodes M₁ ≤ 128) × (nodes M₂ ≤ 128)
+    pub small : (nodes M₁ ≤ nodesMost) × (nodes M₂ ≤ nodesMost)
     small = let k = known in (nodes-sized M₁ (k .first) .1, nodes-sized M₂ (k .second) .1)
 
     module _ (p : Partition) (r : Partitioned M₁ M₂ p) where
@@ -43,7 +44,7 @@ module _ (M₁ M₂ before : List ℕ) where
           blocks-few (signals M₁) M₁ M₂ (k .first) (k .second) (r .ls) (p .count) (λ c. getD (p .line) c 0) (rowsHas (p .first)) (rowsHas (p .second)) (r .refinement)
 
       -- the lines and one more fit the space
-      pub fits : (p .count ≤ 128) × (39 + 6 * p .lines ≤ length before) × (p .lines < 938)
+      pub fits : (p .count ≤ nodesMost) × (nextHead + lineWords * (p .lines + 1) ≤ length before) × (p .lines < writtenMost)
       fits =
           let k = known in
           let short = r .short in
@@ -67,7 +68,7 @@ module _ (M₁ M₂ before : List ℕ) where
             }
 
         -- "not" of the line of the block was written below the lines
-        module _ (n : c ≡ 0 → ⊥) (w : List ℕ) (size : length (p .words) ≡ 5632) (adds : Adds (p .words) w (p .lines) (neg (getD (p .line) (c - 1) 0) ∷ [])) where
+        module _ (n : c ≡ 0 → ⊥) (w : List ℕ) (size : length (p .words) ≡ writtenSpace) (adds : Adds (p .words) w (p .lines) (neg (getD (p .line) (c - 1) 0) ∷ [])) where
           block : c - 1 < p .count
           block = let high = s .high in omega arith
 

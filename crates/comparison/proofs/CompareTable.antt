@@ -1,12 +1,12 @@
 -- The questions of comparison, in the parts in which the code asks them: the first machine's, the second's, and those of both and the
 -- space. Where no question refuses, both sheets are accepted, their signals agree, their nodes are few, and the space is enough.
-use mathlib.Core.Path.{_≡_, refl, sym, ap, _∙_}
+use mathlib.Core.Path.{_≡_, refl, sym, _∙_}
 use Prim.Native.Nat.{ℕ, _+_, _*_, _≤_, _<_}
 use native.Mathlib.Omega.{arith}
 use mathlib.Core.List.{List, _++_}
 use borrow.Author.Tests.{le-leb, lt-leb, eq-eqb, ne-eqb}
 use lib.Dec.{leb→le, eqb→eq}
-use Rattle.truth.specs.Passed.{Refusal, none as noRefusal, Question, firstNo, nodes, signals, machineQuestions, machineRefusal}
+use Rattle.truth.specs.Passed.{Refusal, none as noRefusal, Question, firstNo, nodes, signals, machineQuestions, machineRefusal, nodesMost, ruleSpace}
 use Rattle.truth.proofs.Passed.{all-yes, found, none, yes, no, none-found, PutTo, no-sheet, machine-refused, machine-passed, machine-none}
 use Rattle.comparison.specs.Comparison.{compareQuestions}
 use Rattle.comparison.specs.CompareAnswers.{comparisonQuestions}
@@ -43,24 +43,24 @@ module _ (M₁ M₂ : List ℕ) (space : ℕ) where
   -- ---- the last questions
 
   abbrev room : ℕ
-  room = 33 + 6 * (signals M₁ + 7 * (nodes M₁ + nodes M₂))
+  room = ruleSpace (signals M₁) (nodes M₁ + nodes M₂)
 
   pub by-signals : (signals M₁ ≡ signals M₂ → ⊥) → 20 ≡ firstNo lastQuestions .number
   unfolding compareQuestions
   by-signals n = sym (found lastQuestions (no (ne-eqb (signals M₁) (signals M₂) n)))
 
   module _ (same : signals M₁ ≡ signals M₂) where
-    pub by-nodes : 128 < nodes M₁ + nodes M₂ → 21 ≡ firstNo lastQuestions .number
+    pub by-nodes : nodesMost < nodes M₁ + nodes M₂ → 21 ≡ firstNo lastQuestions .number
     unfolding compareQuestions
-    by-nodes h = sym (found lastQuestions (yes (eq-eqb (signals M₁) (signals M₂) same) (no (lt-leb (nodes M₁ + nodes M₂) 128 h))))
+    by-nodes h = sym (found lastQuestions (yes (eq-eqb (signals M₁) (signals M₂) same) (no (lt-leb (nodes M₁ + nodes M₂) nodesMost h))))
 
-    pub by-space : nodes M₁ + nodes M₂ ≤ 128 → space < room → 22 ≡ firstNo lastQuestions .number
+    pub by-space : nodes M₁ + nodes M₂ ≤ nodesMost → space < room → 22 ≡ firstNo lastQuestions .number
     unfolding compareQuestions
-    by-space h l = sym (found lastQuestions (yes (eq-eqb (signals M₁) (signals M₂) same) (yes (le-leb (nodes M₁ + nodes M₂) 128 h) (no (lt-leb room space l)))))
+    by-space h l = sym (found lastQuestions (yes (eq-eqb (signals M₁) (signals M₂) same) (yes (le-leb (nodes M₁ + nodes M₂) nodesMost h) (no (lt-leb room space l)))))
 
-    pub by-none : nodes M₁ + nodes M₂ ≤ 128 → room ≤ space → 0 ≡ firstNo lastQuestions .number
+    pub by-none : nodes M₁ + nodes M₂ ≤ nodesMost → room ≤ space → 0 ≡ firstNo lastQuestions .number
     unfolding compareQuestions
-    by-none h l = sym (found lastQuestions (yes (eq-eqb (signals M₁) (signals M₂) same) (yes (le-leb (nodes M₁ + nodes M₂) 128 h) (yes (le-leb room space l) none))))
+    by-none h l = sym (found lastQuestions (yes (eq-eqb (signals M₁) (signals M₂) same) (yes (le-leb (nodes M₁ + nodes M₂) nodesMost h) (yes (le-leb room space l) none))))
 
   -- ---- what it says where it refuses nothing
 
@@ -68,7 +68,7 @@ module _ (M₁ M₂ : List ℕ) (space : ℕ) where
     pub first : machineRefusal M₁ ≡ 0
     pub second : machineRefusal M₂ ≡ 0
     pub same : signals M₁ ≡ signals M₂
-    pub few : nodes M₁ + nodes M₂ ≤ 128
+    pub few : nodes M₁ + nodes M₂ ≤ nodesMost
     pub enough : room ≤ space
 
   module _ (e : 0 ≡ asked .number) where
@@ -86,7 +86,7 @@ module _ (M₁ M₂ : List ℕ) (space : ℕ) where
           first = one .0;
           second = two .0;
           same = eqb→eq (signals M₁) (signals M₂) (last .0);
-          few = leb→le (nodes M₁ + nodes M₂) 128 (last .1 .0);
+          few = leb→le (nodes M₁ + nodes M₂) nodesMost (last .1 .0);
           enough = leb→le room space (last .1 .1 .0);
         }
 

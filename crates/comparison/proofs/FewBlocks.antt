@@ -6,7 +6,7 @@ use native.Mathlib.Omega.{arith}
 use native.Mathlib.Decide.{decLe, decLt}
 use mathlib.Core.List.{List}
 use lib.Dec.{T}
-use Rattle.truth.specs.Passed.{nodes, signals, machineRefusal}
+use Rattle.truth.specs.Passed.{nodes, signals, machineRefusal, nodesMost}
 use Rattle.truth.proofs.Passed.{chosen, pigeonhole, nodes-sized}
 use Rattle.comparison.specs.Lines.{Entry}
 use Rattle.comparison.specs.Blocks.{Members, In, Exact, Disjoint, Inhabited}
@@ -39,7 +39,7 @@ module _ (M : List ℕ) (ok : machineRefusal M ≡ 0) (ls : List Entry) (count :
       absurd (omega arith))
 
 pub blocks-bounded : (M₁ M₂ : List ℕ) (ok₁ : machineRefusal M₁ ≡ 0) (ok₂ : machineRefusal M₂ ≡ 0) → Bounded M₁ M₂
-    → (ls : List Entry) (count : ℕ) (line : ℕ → ℕ) (m₁ m₂ : Members) → Refinement (signals M₁) M₁ M₂ ls count line m₁ m₂ → count ≤ 128
+    → (ls : List Entry) (count : ℕ) (line : ℕ → ℕ) (m₁ m₂ : Members) → Refinement (signals M₁) M₁ M₂ ls count line m₁ m₂ → count ≤ nodesMost
 unfolding Bounded
 blocks-bounded M₁ M₂ ok₁ ok₂ b ls count line m₁ m₂ r =
     ⊎-elim (λ few. omega (arith, blocks-few (signals M₁) M₁ M₂ ok₁ ok₂ ls count line m₁ m₂ r))

@@ -8,7 +8,7 @@ use mathlib.Core.List.{List, [], _∷_, _++_}
 use mathlib.Core.Bool.{Bool, true, not, _||_, or-not-self}
 use lib.ListN.{length, length-append}
 use lib.Dec.{T}
-use Rattle.truth.specs.Passed.{kripke, nodes, machineRefusal}
+use Rattle.truth.specs.Passed.{kripke, nodes, machineRefusal, signalsMost}
 use Rattle.truth.proofs.Passed.{nodes-sized}
 use Rattle.comparison.specs.Lines.{Entry, sig, entry, Refers, Downward, signalLines, everywhere, firstLines}
 use Rattle.comparison.specs.Blocks.{Exact, Members, Covers, Disjoint, Inhabited}
@@ -32,14 +32,14 @@ signal-entry (suc a) i lo hi =
     let q : suc a ≡ i = omega arith in
     ap (entry (signalLines a ++ sig (suc a) ∷ [])) e ∙ entry-added (signalLines a) (sig (suc a) ∷ []) 1 (omega arith) ∙ ap sig q)
 
-pub signal-down : (a : ℕ) → a ≤ 16 → Downward a (signalLines a)
+pub signal-down : (a : ℕ) → a ≤ signalsMost → Downward a (signalLines a)
 unfolding Refers
 signal-down a few = record {
   few = few;
   refers = λ j lo hi. subst (Refers a j) (sym (signal-entry a j lo (omega (arith, signal-length a)))) (lo, omega (arith, signal-length a));
 }
 
-pub exact-signal : (M : List ℕ) → machineRefusal M ≡ 0 → (a : ℕ) → a ≤ 16 → (i : ℕ) → 1 ≤ i → i ≤ a → Exact M (signalLines a) i (kripke M .signal i)
+pub exact-signal : (M : List ℕ) → machineRefusal M ≡ 0 → (a : ℕ) → a ≤ signalsMost → (i : ℕ) → 1 ≤ i → i ≤ a → Exact M (signalLines a) i (kripke M .signal i)
 exact-signal M ok a few i lo hi =
     exact-sig M ok a (signalLines a) (signal-down a few) i lo (omega (arith, signal-length a)) i (signal-entry a i lo hi)
 
@@ -85,7 +85,7 @@ one-refined M ls line mem all x = record {
 
 -- ---- the refinement to begin with
 
-pub first-length : (a : ℕ) → 1 ≤ a → a ≤ 16 → length (firstLines a) ≡ a + 2
+pub first-length : (a : ℕ) → 1 ≤ a → a ≤ signalsMost → length (firstLines a) ≡ a + 2
 unfolding firstLines
 first-length a some few =
     let n = signal-length a in
@@ -96,7 +96,7 @@ unfolding firstLines
 first-entry a i lo hi =
     entry-above (signalLines a) (everywhere (length (signalLines a)) 1) i lo (omega (arith, signal-length a)) ∙ signal-entry a i lo hi
 
-true-line : (a : ℕ) → 1 ≤ a → a ≤ 16 → (M : List ℕ) → machineRefusal M ≡ 0 → Exact M (firstLines a) (a + 2) (λ s. true)
+true-line : (a : ℕ) → 1 ≤ a → a ≤ signalsMost → (M : List ℕ) → machineRefusal M ≡ 0 → Exact M (firstLines a) (a + 2) (λ s. true)
 unfolding firstLines
 true-line a some few M ok =
     let n = signal-length a in
@@ -104,7 +104,7 @@ true-line a some few M ok =
     (exact-everywhere a (signalLines a) (signal-down a few) 1 (omega arith) (omega arith) M ok (kripke M .signal 1)
     (exact-signal M ok a few 1 (omega arith) some))
 
-pub begins : (a : ℕ) → 1 ≤ a → a ≤ 16 → (M₁ M₂ : List ℕ) → machineRefusal M₁ ≡ 0 → machineRefusal M₂ ≡ 0 → (line : ℕ → ℕ) → line 0 ≡ a + 2
+pub begins : (a : ℕ) → 1 ≤ a → a ≤ signalsMost → (M₁ M₂ : List ℕ) → machineRefusal M₁ ≡ 0 → machineRefusal M₂ ≡ 0 → (line : ℕ → ℕ) → line 0 ≡ a + 2
     → (m₁ m₂ : Members) → ((s : ℕ) → 1 ≤ s → s ≤ nodes M₁ → m₁ 0 s ≡ true) → ((t : ℕ) → 1 ≤ t → t ≤ nodes M₂ → m₂ 0 t ≡ true)
     → Refinement a M₁ M₂ (firstLines a) 1 line m₁ m₂
 unfolding LinesIn Inhabited firstLines

@@ -8,10 +8,12 @@ use borrow.Author.Tests.{le-leb}
 use lib.ListN.{length, getD, set, length-set}
 use lib.Seq.{getD-set-same}
 use lib.Dec.{T, leb, leb→le}
-use Rattle.truth.specs.Passed.{nodes, signals, machineRefusal, within}
+use Rattle.truth.specs.Sizes.{membersMost}
+use Rattle.truth.specs.Passed.{nodes, signals, machineRefusal, within, nodesMost}
 use Rattle.truth.specs.Rows.{held, rowsHas}
 use Rattle.truth.proofs.Passed.{and-left, passed, within-in, nodes-sized, signals-sized}
 use Rattle.truth.proofs.tables.TableLaws.{stored-length, stored-here}
+use Rattle.comparison.specs.Sizes.{blockPlaces, blockWords}
 use Rattle.comparison.specs.Bounded.{Bounded}
 use Rattle.comparison.specs.Lines.{firstLines, HoldsLines}
 use Rattle.comparison.specs.Tables.{OfNodes}
@@ -19,28 +21,28 @@ use Rattle.comparison.specs.Stages.{Staged}
 use Rattle.comparison.proofs.FirstLines.{first-length, first-entry, begins}
 
 -- the nodes 1 to n in row 0
-module _ (M before after : List ℕ) (low high n : ℕ) (size : length before ≡ 512) (stored : after ≡ set (set before 0 low) 1 high)
-    (row : (s : ℕ) → held low high s ≡ (leb s n && within 1 128 s)) (same : n ≡ nodes M) where
-  first-size : length after ≡ 512
+module _ (M before after : List ℕ) (low high n : ℕ) (size : length before ≡ blockWords) (stored : after ≡ set (set before 0 low) 1 high)
+    (row : (s : ℕ) → held low high s ≡ (leb s n && within 1 membersMost s)) (same : n ≡ nodes M) where
+  first-size : length after ≡ blockWords
   first-size = ap length stored ∙ stored-length before 0 low high (omega arith) ∙ size
 
-  first-row : (s : ℕ) → rowsHas after 0 s ≡ (leb s (nodes M) && within 1 128 s)
+  first-row : (s : ℕ) → rowsHas after 0 s ≡ (leb s (nodes M) && within 1 membersMost s)
   first-row s = ap (λ (l : List ℕ). rowsHas l 0 s) stored ∙ stored-here before 0 low high (omega arith) s ∙ row s ∙ rw same
 
-  all-nodes : nodes M ≤ 128 → (s : ℕ) → 1 ≤ s → s ≤ nodes M → rowsHas after 0 s ≡ true
-  all-nodes few s lo hi = first-row s ∙ rw (le-leb s (nodes M) hi, passed (within 1 128 s) (within-in 1 128 s lo (omega arith)))
+  all-nodes : nodes M ≤ nodesMost → (s : ℕ) → 1 ≤ s → s ≤ nodes M → rowsHas after 0 s ≡ true
+  all-nodes few s lo hi = first-row s ∙ rw (le-leb s (nodes M) hi, passed (within 1 membersMost s) (within-in 1 membersMost s lo (omega arith)))
 
   only-nodes : (c : ℕ) → c < 1 → (s : ℕ) → T (rowsHas after c s) → s ≤ nodes M
   only-nodes c h s t =
       let e : c ≡ 0 = omega arith in
       let t′ : T (rowsHas after 0 s) = rw e at t in
-      leb→le s (nodes M) (and-left (leb s (nodes M)) (within 1 128 s) (subst T (first-row s) t′))
+      leb→le s (nodes M) (and-left (leb s (nodes M)) (within 1 membersMost s) (subst T (first-row s) t′))
 
 pub begun : (M₁ M₂ : List ℕ) → machineRefusal M₁ ≡ 0 → machineRefusal M₂ ≡ 0 → Bounded M₁ M₂
     → (a n₁ n₂ : ℕ) → a ≡ signals M₁ → n₁ ≡ nodes M₁ → n₂ ≡ nodes M₂
-    → (first₀ first second₀ second line words : List ℕ) (l₁ h₁ l₂ h₂ : ℕ) → length first₀ ≡ 512 → length second₀ ≡ 512 → length line ≡ 256
+    → (first₀ first second₀ second line words : List ℕ) (l₁ h₁ l₂ h₂ : ℕ) → length first₀ ≡ blockWords → length second₀ ≡ blockWords → length line ≡ blockPlaces
     → first ≡ set (set first₀ 0 l₁) 1 h₁ → second ≡ set (set second₀ 0 l₂) 1 h₂
-    → ((s : ℕ) → held l₁ h₁ s ≡ (leb s n₁ && within 1 128 s)) → ((s : ℕ) → held l₂ h₂ s ≡ (leb s n₂ && within 1 128 s)) → HoldsLines words (firstLines a)
+    → ((s : ℕ) → held l₁ h₁ s ≡ (leb s n₁ && within 1 membersMost s)) → ((s : ℕ) → held l₂ h₂ s ≡ (leb s n₂ && within 1 membersMost s)) → HoldsLines words (firstLines a)
     → Staged M₁ M₂ 5 (record { first = first; second = second; line = set line 0 (a + 2); words = words; count = 1; lines = a + 2 })
 unfolding OfNodes
 begun M₁ M₂ ok₁ ok₂ bounded a n₁ n₂ ea e₁ e₂ first₀ first second₀ second line words l₁ h₁ l₂ h₂ z₁ z₂ z s₁ s₂ r₁ r₂ holds =

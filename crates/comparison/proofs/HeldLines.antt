@@ -6,7 +6,9 @@ use native.Mathlib.Omega.{arith}
 use mathlib.Core.List.{List, [], _∷_, _++_, append-assoc}
 use lib.ListN.{length, set, take, length-append, length-set}
 use lib.Seq.{take-suc-set}
-use Rattle.comparison.specs.Lines.{Entry, sig, neg, alt, words, lineWords, signalLines, everywhere, firstLines, split, HoldsLines, Adds}
+use Rattle.truth.specs.Passed.{lineWords}
+use Rattle.comparison.specs.Sizes.{writtenSpace}
+use Rattle.comparison.specs.Lines.{Entry, sig, neg, alt, words, writtenWords, signalLines, everywhere, firstLines, split, HoldsLines, Adds}
 use Rattle.comparison.proofs.Lines.{words-below}
 use Rattle.comparison.proofs.FirstLines.{signal-length}
 
@@ -16,8 +18,8 @@ use Rattle.comparison.proofs.FirstLines.{signal-length}
 stored-next : (l front : List ℕ) (k j v : ℕ) → take k l ≡ front → j ≡ k + 1 → k < length l → take j (set l k v) ≡ front ++ v ∷ []
 stored-next l front k j v e f h = rw (f, add-one, ← e) (take-suc-set l k v h)
 
-pub six-stored : (l : List ℕ) (k u v w x y z : ℕ) → k + 6 ≤ length l
-    → take (k + 6) (set (set (set (set (set (set l k u) (k + 1) v) (k + 2) w) (k + 3) x) (k + 4) y) (k + 5) z) ≡ take k l ++ u ∷ v ∷ w ∷ x ∷ y ∷ z ∷ []
+pub six-stored : (l : List ℕ) (k u v w x y z : ℕ) → k + lineWords ≤ length l
+    → take (k + lineWords) (set (set (set (set (set (set l k u) (k + 1) v) (k + 2) w) (k + 3) x) (k + 4) y) (k + 5) z) ≡ take k l ++ u ∷ v ∷ w ∷ x ∷ y ∷ z ∷ []
 six-stored l k u v w x y z h =
     let l₁ = set l k u in
     let l₂ = set l₁ (k + 1) v in
@@ -34,23 +36,23 @@ six-stored l k u v w x y z h =
     let e₃ = stored-next l₂ ((take k l ++ u ∷ []) ++ v ∷ []) (k + 2) (k + 3) w e₂ (omega arith) (omega arith) in
     let e₄ = stored-next l₃ (((take k l ++ u ∷ []) ++ v ∷ []) ++ w ∷ []) (k + 3) (k + 4) x e₃ (omega arith) (omega arith) in
     let e₅ = stored-next l₄ ((((take k l ++ u ∷ []) ++ v ∷ []) ++ w ∷ []) ++ x ∷ []) (k + 4) (k + 5) y e₄ (omega arith) (omega arith) in
-    stored-next l₅ (((((take k l ++ u ∷ []) ++ v ∷ []) ++ w ∷ []) ++ x ∷ []) ++ y ∷ []) (k + 5) (k + 6) z e₅ (omega arith) (omega arith)
+    stored-next l₅ (((((take k l ++ u ∷ []) ++ v ∷ []) ++ w ∷ []) ++ x ∷ []) ++ y ∷ []) (k + 5) (k + lineWords) z e₅ (omega arith) (omega arith)
     ∙ simp append-assoc
 
 -- ---- lines
 
 -- the words of a line were stored below n lines
-pub adds-line : (before after : List ℕ) (n : ℕ) (l : Entry) → length after ≡ 5632 → take (6 * n + 6) after ≡ take (6 * n) before ++ words l → Adds before after n (l ∷ [])
+pub adds-line : (before after : List ℕ) (n : ℕ) (l : Entry) → length after ≡ writtenSpace → take (lineWords * n + lineWords) after ≡ take (lineWords * n) before ++ words l → Adds before after n (l ∷ [])
 adds-line before after n l size e = record { size = size; adds = λ ls len h. record { size = size; stands = stands ls len (h .stands) } }
   where
-    stands : (ls : List Entry) → length ls ≡ n → take (6 * length ls) before ≡ lineWords ls → take (6 * length (ls ++ l ∷ [])) after ≡ lineWords (ls ++ l ∷ [])
+    stands : (ls : List Entry) → length ls ≡ n → take (lineWords * length ls) before ≡ writtenWords ls → take (lineWords * length (ls ++ l ∷ [])) after ≡ writtenWords (ls ++ l ∷ [])
     stands ls len h =
-        let m : 6 * length (ls ++ l ∷ []) ≡ 6 * n + 6 = omega (arith, length-append ls (l ∷ [])) in
-        let k : 6 * length ls ≡ 6 * n = omega arith in
+        let m : lineWords * length (ls ++ l ∷ []) ≡ lineWords * n + lineWords = omega (arith, length-append ls (l ∷ [])) in
+        let k : lineWords * length ls ≡ lineWords * n = omega arith in
         ap (λ (i : ℕ). take i after) m ∙ e ∙ rw (← k, h, words-below)
 
-pub holds-none : (space : List ℕ) → length space ≡ 5632 → HoldsLines space []
-unfolding lineWords
+pub holds-none : (space : List ℕ) → length space ≡ writtenSpace → HoldsLines space []
+unfolding writtenWords
 holds-none space size = record { size = size; stands = refl }
 
 -- one list after the other

@@ -22,6 +22,7 @@ pub mod StagedSplits
 pub mod DividingBlocks
 pub mod Splitters
 pub mod MarkedBlocks
+pub mod MarkedNodes
 pub mod Surveys
 pub mod TurningBlocks
 pub mod SettlingBlocks
@@ -36,6 +37,8 @@ pub mod ToldByLines
 pub mod MarkedMachines
 pub mod TakenLines
 pub mod EachLine
+pub mod SameTruths
 pub mod MergedLines
+pub mod NeededMarks
 pub mod NeededLines
 pub mod ShorterRules

@@ -1,86 +1,85 @@
 -- A list of lines that refer only to lines above and to signals 1 to a makes a sheet that is accepted, and is over a signals.
-use mathlib.Core.Path.{_≡_, refl, sym, subst, subst₂, _∙_}
+use mathlib.Core.Path.{_≡_, refl, sym, subst, _∙_}
 use Prim.Native.Nat.{ℕ, _+_, _-_, _*_, _≤_, _<_}
 use native.Mathlib.Omega.{arith}
 use mathlib.Core.List.{List, [], _∷_}
-use mathlib.Core.Bool.{Bool, not, _&&_, _||_, and-true}
+use mathlib.Core.Bool.{Bool, _&&_, and-true}
 use lib.ListN.{length, getD}
 use lib.Dec.{T, leb, le→leb, eqb, eqb-refl}
-use Rattle.truth.specs.Passed.{lent, lifted, within, each, variables, automata, lines, lineWord, lineFits, pathFits, refersAbove, unused, ruleRefusal, overSignals, q7, q8, q9, q10, q11, q12, q13, q14, q15}
+use Rattle.truth.specs.Passed.{lent, lifted, within, each, variables, automata, lines, lineWord, lineFits, pathFits, refersAbove, unused, line, ruleRefusal, signalMost, overSignals, q7, q8, q9, q10, q11, q12, q13, q14, q15, signalsMost, linesMost, lineWords, nextHead}
 use Rattle.comparison.specs.Comparison.{Rule}
 use Rattle.truth.proofs.Passed.{and-both, within-in, each-in, rule-accepted, fifteen-same, over-same}
 use Rattle.comparison.specs.Lines.{Entry, sig, neg, alt, next, words, sheet, entry, Refers, Downward}
-use Rattle.comparison.proofs.Lines.{padded, length-sheet, word-is}
+use Rattle.comparison.proofs.Lines.{padded, length-sheet, word-is, decoded, line-is}
 
 module _ (ls : List Entry) (j : ℕ) where
-  unused-is : (l : Entry) → entry ls j ≡ l → (c : ℕ) → c ≤ 6 → ((k : ℕ) → c ≤ k → getD (words l) k 0 ≡ 0) → T (unused (lifted 6) (sheet ls) j c)
+  unused-is : (l : Entry) → entry ls j ≡ l → (c : ℕ) → c ≤ lineWords → ((k : ℕ) → c ≤ k → getD (words l) k 0 ≡ 0) → T (unused (lifted lineWords) (sheet ls) j c)
   unfolding unused lifted
   unused-is l e c h z =
-      and-both (leb c 6) (each (6 - c) (λ i. eqb (lineWord (lifted 6) (sheet ls) j (c + i - 1)) 0)) (le→leb c 6 h)
-      (each-in (6 - c) (λ i. eqb (lineWord (lifted 6) (sheet ls) j (c + i - 1)) 0) (λ i lo hi.
+      and-both (leb c lineWords) (each (lineWords - c) (λ i. eqb (lineWord (lifted lineWords) (sheet ls) j (c + i - 1)) 0)) (le→leb c lineWords h)
+      (each-in (lineWords - c) (λ i. eqb (lineWord (lifted lineWords) (sheet ls) j (c + i - 1)) 0) (λ i lo hi.
       let w = word-is ls j l e (c + i - 1) (omega arith) ∙ z (c + i - 1) (omega arith) in
       subst (λ (x : ℕ). T (eqb x 0)) (sym w) tt))
 
-  above-word : (l : Entry) → entry ls j ≡ l → (k : ℕ) → k < 6 → 1 ≤ getD (words l) k 0 → getD (words l) k 0 < j
-      → T (within 1 (j - 1) (lineWord (lifted 6) (sheet ls) j k))
+  above-word : (l : Entry) → entry ls j ≡ l → (k : ℕ) → k < lineWords → 1 ≤ getD (words l) k 0 → getD (words l) k 0 < j
+      → T (within 1 (j - 1) (lineWord (lifted lineWords) (sheet ls) j k))
   above-word l e k h lo hi =
       subst (λ (x : ℕ). T (within 1 (j - 1) x)) (sym (word-is ls j l e k h)) (within-in 1 (j - 1) (getD (words l) k 0) lo (omega arith))
 
   path-fits : ℕ → Bool
-  path-fits x = within 1 (automata (sheet ls)) x && refersAbove (lifted 6) (sheet ls) j 1 (variables (sheet ls) x) && unused (lifted 6) (sheet ls) j (2 + variables (sheet ls) x)
+  path-fits x = within 1 (automata (sheet ls)) x && refersAbove (lifted lineWords) (sheet ls) j 1 (variables (sheet ls) x) && unused (lifted lineWords) (sheet ls) j (2 + variables (sheet ls) x)
 
   next-fits : (i : ℕ) → entry ls j ≡ next i → 1 ≤ i → i < j → T (path-fits 1)
   unfolding path-fits automata variables refersAbove within sheet words
   next-fits i e lo hi =
-      and-both (refersAbove (lifted 6) (sheet ls) j 1 1) (unused (lifted 6) (sheet ls) j 3) (above-word (next i) e 2 (omega arith) lo hi)
+      and-both (refersAbove (lifted lineWords) (sheet ls) j 1 1) (unused (lifted lineWords) (sheet ls) j 3) (above-word (next i) e 2 (omega arith) lo hi)
       (unused-is (next i) e 3 (omega arith) (padded (3 ∷ 1 ∷ i ∷ []) 3))
 
   -- with the operation written out
-  fits-by : (a : ℕ) → a ≤ 16 → (l : Entry) → entry ls j ≡ l → Refers a j l → T (lineFits (lifted 6) (sheet ls) j (getD (words l) 0 0))
+  fits-by : (a : ℕ) → a ≤ signalsMost → (l : Entry) → entry ls j ≡ l → Refers a j l → T (lineFits (lifted lineWords) (sheet ls) j (getD (words l) 0 0))
   unfolding lineFits pathFits Refers words refersAbove path-fits
   fits-by a small (sig i) e r =
-      and-both (within 1 16 (lineWord (lifted 6) (sheet ls) j 1)) (unused (lifted 6) (sheet ls) j 2)
-      (subst (λ (x : ℕ). T (within 1 16 x)) (sym (word-is ls j (sig i) e 1 (omega arith))) (within-in 1 16 i (r .0) (omega arith)))
+      and-both (within 1 signalsMost (lineWord (lifted lineWords) (sheet ls) j 1)) (unused (lifted lineWords) (sheet ls) j 2)
+      (subst (λ (x : ℕ). T (within 1 signalsMost x)) (sym (word-is ls j (sig i) e 1 (omega arith))) (within-in 1 signalsMost i (r .0) (omega arith)))
       (unused-is (sig i) e 2 (omega arith) (padded (0 ∷ i ∷ []) 4))
   fits-by a small (neg i) e r =
-      and-both (refersAbove (lifted 6) (sheet ls) j 0 1) (unused (lifted 6) (sheet ls) j 2)
+      and-both (refersAbove (lifted lineWords) (sheet ls) j 0 1) (unused (lifted lineWords) (sheet ls) j 2)
       (above-word (neg i) e 1 (omega arith) (r .0) (r .1))
       (unused-is (neg i) e 2 (omega arith) (padded (1 ∷ i ∷ []) 4))
   fits-by a small (alt i k) e r =
-      and-both (refersAbove (lifted 6) (sheet ls) j 0 2) (unused (lifted 6) (sheet ls) j 3)
-      (and-both (within 1 (j - 1) (lineWord (lifted 6) (sheet ls) j 1)) (within 1 (j - 1) (lineWord (lifted 6) (sheet ls) j 2))
+      and-both (refersAbove (lifted lineWords) (sheet ls) j 0 2) (unused (lifted lineWords) (sheet ls) j 3)
+      (and-both (within 1 (j - 1) (lineWord (lifted lineWords) (sheet ls) j 1)) (within 1 (j - 1) (lineWord (lifted lineWords) (sheet ls) j 2))
       (above-word (alt i k) e 1 (omega arith) (r .0 .0) (r .0 .1))
       (above-word (alt i k) e 2 (omega arith) (r .1 .0) (r .1 .1)))
       (unused-is (alt i k) e 3 (omega arith) (padded (2 ∷ i ∷ k ∷ []) 3))
   fits-by a small (next i) e r = subst (λ (x : ℕ). T (path-fits x)) (sym (word-is ls j (next i) e 1 (omega arith))) (next-fits i e (r .0) (r .1))
 
-  fits-line : (a : ℕ) → a ≤ 16 → Refers a j (entry ls j) → T (lineFits (lifted 6) (sheet ls) j (lineWord (lifted 6) (sheet ls) j 0))
+  fits-line : (a : ℕ) → a ≤ signalsMost → Refers a j (entry ls j) → T (lineFits (lifted lineWords) (sheet ls) j (lineWord (lifted lineWords) (sheet ls) j 0))
   fits-line a small r =
-      subst (λ (x : ℕ). T (lineFits (lifted 6) (sheet ls) j x)) (sym (word-is ls j (entry ls j) refl 0 (omega arith))) (fits-by a small (entry ls j) refl r)
+      subst (λ (x : ℕ). T (lineFits (lifted lineWords) (sheet ls) j x)) (sym (word-is ls j (entry ls j) refl 0 (omega arith))) (fits-by a small (entry ls j) refl r)
 
-  over-by : (a : ℕ) (l : Entry) → Refers a j l → T (not (eqb (getD (words l) 0 0) 0) || leb (getD (words l) 1 0) a)
-  unfolding Refers words
-  over-by a (sig i) r = le→leb i a (r .1)
-  over-by a (neg i) r = tt
-  over-by a (alt i k) r = tt
-  over-by a (next i) r = tt
+  over-by : (arg : ℕ → ℕ) (a : ℕ) (l : Entry) → Refers a j l → T (signalMost a (decoded arg l))
+  unfolding Refers decoded signalMost
+  over-by arg a (sig i) r = le→leb i a (r .1)
+  over-by arg a (neg i) r = tt
+  over-by arg a (alt i k) r = tt
+  over-by arg a (next i) r = tt
 
 module _ (a : ℕ) (ls : List Entry) (down : Downward a ls) where
-  over-logic : T (overSignals (lifted 6) a (sheet ls))
+  over-logic : T (overSignals (lifted lineWords) a (sheet ls))
   unfolding overSignals lines sheet
   over-logic =
-      each-in (length ls) (λ j. not (eqb (lineWord (lifted 6) (sheet ls) j 0) 0) || leb (lineWord (lifted 6) (sheet ls) j 1) a) (λ j lo hi.
-      subst₂ (λ (x y : ℕ). T (not (eqb x 0) || leb y a)) (sym (word-is ls j (entry ls j) refl 0 (omega arith)))
-      (sym (word-is ls j (entry ls j) refl 1 (omega arith))) (over-by ls j a (entry ls j) (down .refers j lo hi)))
+      each-in (length ls) (λ j. signalMost a (line (lifted lineWords) (sheet ls) j))
+      (λ j lo hi. subst (λ l. T (signalMost a l)) (sym (line-is ls j)) (over-by ls j _ a (entry ls j) (down .refers j lo hi)))
 
-  fifteen-logic : T (q15 (lifted 6) (sheet ls))
+  fifteen-logic : T (q15 (lifted lineWords) (sheet ls))
   unfolding q15 lines sheet
   fifteen-logic =
-      each-in (length ls) (λ j. lineFits (lifted 6) (sheet ls) j (lineWord (lifted 6) (sheet ls) j 0))
+      each-in (length ls) (λ j. lineFits (lifted lineWords) (sheet ls) j (lineWord (lifted lineWords) (sheet ls) j 0))
       (λ j lo hi. fits-line ls j a (down .few) (down .refers j lo hi))
 
-  size : T (eqb (length (sheet ls)) (33 + 6 * length ls))
-  size = rw (length-sheet ls) (eqb-refl (33 + 6 * length ls))
+  size : T (eqb (length (sheet ls)) (nextHead + lineWords * length ls))
+  size = rw (length-sheet ls) (eqb-refl (nextHead + lineWords * length ls))
 
   module _ (some : 1 ≤ length ls) where
     sized : T (leb 4 (length (sheet ls)) && leb 1 (length ls))
@@ -88,9 +87,9 @@ module _ (a : ℕ) (ls : List Entry) (down : Downward a ls) where
         and-both (leb 4 (length (sheet ls))) (leb 1 (length ls)) (le→leb 4 (length (sheet ls)) (omega (arith, length-sheet ls))) (le→leb 1 (length ls) some)
 
     -- as a rule of the logic, whatever its length
-    pub accepted : ruleRefusal (lifted 6) (sheet ls) ≡ 0
+    pub accepted : ruleRefusal (lifted lineWords) (sheet ls) ≡ 0
     unfolding q7 q8 q9 q10 q11 q12 q13 q14 sheet lifted
-    accepted = rule-accepted (lifted 6) (sheet ls) (record {
+    accepted = rule-accepted (lifted lineWords) (sheet ls) (record {
       seven = simp and-true sized;
       eight = size;
       nine = tt;
@@ -102,14 +101,14 @@ module _ (a : ℕ) (ls : List Entry) (down : Downward a ls) where
       fifteen = fifteen-logic;
     })
 
-    pub rule : Rule a 6 (sheet ls)
+    pub rule : Rule a lineWords (sheet ls)
     rule = record { accepted = accepted; over = over-logic }
 
-    -- as a lent sheet, if it has at most 1024 lines
-    pub accepted-lent : length ls ≤ 1024 → ruleRefusal lent (sheet ls) ≡ 0
+    -- as a lent sheet, if it has at most as many lines as one
+    pub accepted-lent : length ls ≤ linesMost → ruleRefusal lent (sheet ls) ≡ 0
     unfolding q7 q8 q9 q10 q11 q12 q13 q14 sheet lent
     accepted-lent few = rule-accepted lent (sheet ls) (record {
-      seven = simp and-true (and-both (leb 4 (length (sheet ls)) && leb 1 (length ls)) (leb (length ls) 1024) sized (le→leb (length ls) 1024 few));
+      seven = simp and-true (and-both (leb 4 (length (sheet ls)) && leb 1 (length ls)) (leb (length ls) linesMost) sized (le→leb (length ls) linesMost few));
       eight = size;
       nine = tt;
       ten = tt;

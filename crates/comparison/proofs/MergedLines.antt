@@ -1,113 +1,20 @@
 -- Lines made one: the line that stands for the next one is true at the same nodes.
-use mathlib.Core.Path.{_≡_, refl, sym, subst, ap, _∙_}
-use mathlib.Core.Logic.{_⊎_, inl, inr, _↔_, Iff·rfl, Iff·trans, Iff·symm, Iff·not, by-cases}
+use mathlib.Core.Path.{_≡_, sym, subst, ap, _∙_}
+use mathlib.Core.Logic.{_⊎_, inl, inr, by-cases}
 use Prim.Native.Nat.{ℕ, _+_, _≤_, _<_}
 use native.Mathlib.Omega.{arith}
 use native.Mathlib.Decide.{decLe, ℕ-discrete}
 use mathlib.Core.List.{List}
 use lib.ListN.{length, getD, set, length-set}
-use lib.Dec.{T}
 use lib.Seq.{getD-set-same, getD-set-other}
-use Rattle.truth.specs.Passed.{kripke, nodes, lifted, machineRefusal}
-use Rattle.truth.proofs.Passed.{sum-iff, edge-stays}
-use Rattle.truth.proofs.Decided.{truth-decided}
-use Rattle.comparison.specs.Lines.{Entry, neg, alt, next, sheet, entry, Refers, Downward}
-use Rattle.comparison.specs.Blocks.{TrueIn}
+use Rattle.comparison.specs.Sizes.{writtenMost, linePlaces}
+use Rattle.comparison.specs.Lines.{Entry, neg, alt, next, entry, Refers, Downward}
 use Rattle.comparison.specs.Needed.{Same, Opposite, NextOf, Always, Stands, AllStand, Opposed, Followed, Merged}
-use Rattle.comparison.proofs.Lines.{lines-are}
-use Rattle.comparison.proofs.LinesAccepted.{accepted}
-use Rattle.comparison.proofs.TrueLines.{true-neg, true-alt, true-next}
-
--- ---- truths
-
-pub same-refl : (ls : List Entry) (j : ℕ) → Same ls j ls j
-unfolding Same
-same-refl ls j M ok s lo hi = Iff·rfl
-
-pub same-then : (ls ms ns : List Entry) (i j k : ℕ) → Same ls i ms j → Same ms j ns k → Same ls i ns k
-unfolding Same
-same-then ls ms ns i j k x y M ok s lo hi = Iff·trans (x M ok s lo hi) (y M ok s lo hi)
-
--- next of the same line
-pub both-next : (ls : List Entry) (i j k : ℕ) → NextOf ls i k → NextOf ls j k → Same ls i ls j
-unfolding NextOf Same
-both-next ls i j k x y M ok s lo hi = Iff·trans (x M ok s lo hi) (Iff·symm (y M ok s lo hi))
-
-module _ (a : ℕ) (ls : List Entry) (down : Downward a ls) where
-  -- the truth of a line is decided
-  known : (j : ℕ) → 1 ≤ j → j ≤ length ls → (M : List ℕ) → machineRefusal M ≡ 0 → (s : ℕ) → 1 ≤ s → s ≤ nodes M → Dec (TrueIn M ls j s)
-  known j l h M ok s = truth-decided (lifted 6) M (sheet ls) ok (accepted a ls down (omega arith)) j s l (omega (arith, lines-are ls))
-
-  turned : {X Y : Type 0} → Dec Y → X ↔ (Y → ⊥) → Y ↔ (X → ⊥)
-  turned (yes y) e = (λ z x. e .0 x z, λ f. y)
-  turned (no n) e = (λ y. absurd (n y), λ f. absurd (f (e .1 n)))
-
-  pub opposite-turned : (j k : ℕ) → 1 ≤ k → k ≤ length ls → Opposite ls j k → Opposite ls k j
-  unfolding Opposite
-  opposite-turned j k l h o M ok s lo hi = turned (known k l h M ok s lo hi) (o M ok s lo hi)
-
-  -- opposite to the same line
-  pub both-opposite : (i j k : ℕ) → 1 ≤ k → k ≤ length ls → Opposite ls i j → Opposite ls j k → Same ls i ls k
-  unfolding Opposite Same
-  both-opposite i j k l h x y M ok s lo hi =
-      Iff·trans (x M ok s lo hi) (Iff·symm (turned (known k l h M ok s lo hi) (y M ok s lo hi)))
-
-  module _ (i : ℕ) (l : 1 ≤ i) (h : i ≤ length ls) where
-    -- "not line j"
-    pub opposite-line : (j t : ℕ) → entry ls i ≡ neg j → Same ls j ls t → Opposite ls i t
-    unfolding Opposite Same
-    opposite-line j t e x M ok s lo hi = Iff·trans (true-neg M ok a ls down i l h s lo hi j e) (Iff·not (x M ok s lo hi))
-
-    -- "some next node has line j"
-    pub next-of-line : (j t : ℕ) → entry ls i ≡ next j → Same ls j ls t → NextOf ls i t
-    unfolding NextOf Same
-    next-of-line j t e x M ok s lo hi =
-        let at = edge-stays M ok s lo hi in
-        Iff·trans (true-next M ok a ls down i l h s lo hi j e) (
-          λ y. let b = at (y .0) (y .1) in (y .0, y .1, x M ok (y .0) (b .0) (b .1) .0 (y .2)),
-          λ y. let b = at (y .0) (y .1) in (y .0, y .1, x M ok (y .0) (b .0) (b .1) .1 (y .2)),
-        )
-
-    -- "line j or line k"
-    module _ (j k x y : ℕ) (e : entry ls i ≡ alt j k) (sx : Same ls j ls x) (sy : Same ls k ls y) where
-      either-line : (M : List ℕ) → machineRefusal M ≡ 0 → (s : ℕ) → 1 ≤ s → s ≤ nodes M → TrueIn M ls i s ↔ (TrueIn M ls x s ⊎ TrueIn M ls y s)
-      unfolding Same
-      either-line M ok s lo hi = Iff·trans (true-alt M ok a ls down i l h s lo hi j k e) (sum-iff (sx M ok s lo hi) (sy M ok s lo hi))
-
-      -- one of them is true nowhere
-      module _ (t : ℕ) (always : Always ls t) where
-        pub right-alone : Opposite ls t x → Same ls i ls y
-        unfolding Same Opposite Always
-        right-alone o M ok s lo hi =
-            let f = either-line M ok s lo hi in
-            (λ z. pick (f .0 z), λ z. f .1 (inr z))
-          where
-            pick : TrueIn M ls x s ⊎ TrueIn M ls y s → TrueIn M ls y s
-            pick (inl z) = absurd (o M ok s lo hi .0 (always M ok s lo hi) z)
-            pick (inr z) = z
-
-        pub left-alone : Opposite ls t y → Same ls i ls x
-        unfolding Same Opposite Always
-        left-alone o M ok s lo hi =
-            let f = either-line M ok s lo hi in
-            (λ z. pick (f .0 z), λ z. f .1 (inl z))
-          where
-            pick : TrueIn M ls x s ⊎ TrueIn M ls y s → TrueIn M ls x s
-            pick (inl z) = z
-            pick (inr z) = absurd (o M ok s lo hi .0 (always M ok s lo hi) z)
-
-      -- they are opposite
-      pub either-always : 1 ≤ y → y ≤ length ls → Opposite ls x y → Always ls i
-      unfolding Opposite Always
-      either-always ly hy o M ok s lo hi = either-line M ok s lo hi .1 (pick (known y ly hy M ok s lo hi))
-        where
-          pick : Dec (TrueIn M ls y s) → TrueIn M ls x s ⊎ TrueIn M ls y s
-          pick (yes z) = inr z
-          pick (no n) = inl (o M ok s lo hi .1 n)
+use Rattle.comparison.proofs.SameTruths.{both-next, both-opposite, either-always, left-alone, next-of-line, opposite-line, opposite-turned, right-alone, same-refl}
 
 -- ---- tables
 
-pub stands-set : (ls : List Entry) (i v : ℕ) (same : List ℕ) → length same ≡ 1024 → i < 938 → AllStand ls i same → 1 ≤ v → v ≤ i + 1 → Same ls (i + 1) ls v
+pub stands-set : (ls : List Entry) (i v : ℕ) (same : List ℕ) → length same ≡ linePlaces → i < writtenMost → AllStand ls i same → 1 ≤ v → v ≤ i + 1 → Same ls (i + 1) ls v
     → AllStand ls (i + 1) (set same (i + 1) v)
 stands-set ls i v same size small x lv hv e k lo hi = by-cases (decLe k i) above here
   where
@@ -123,8 +30,8 @@ stands-set ls i v same size small x lv hv e k lo hi = by-cases (decLe k i) above
         let q : getD (set same (i + 1) v) (i + 1) 0 ≡ v = getD-set-same same (i + 1) v 0 (omega arith) in
         subst (λ (n : ℕ). Stands ls (set same (i + 1) v) n) (sym z) (record { low = rw q lv; high = rw q hv; true = rw q e })
 
-module _ (a : ℕ) (ls : List Entry) (down : Downward a ls) (i : ℕ) (inside : i + 1 ≤ length ls) (small : i < 938)
-    (same other nexts : List ℕ) (top : ℕ) (size : length same ≡ 1024) (sizeOther : length other ≡ 1024) (sizeNexts : length nexts ≡ 1024)
+module _ (a : ℕ) (ls : List Entry) (down : Downward a ls) (i : ℕ) (inside : i + 1 ≤ length ls) (small : i < writtenMost)
+    (same other nexts : List ℕ) (top : ℕ) (size : length same ≡ linePlaces) (sizeOther : length other ≡ linePlaces) (sizeNexts : length nexts ≡ linePlaces)
     (m : Merged ls i same other nexts top) where
   opposed-still : (k : ℕ) → 1 ≤ getD other k 0 → Opposed ls (i + 1) other k
   opposed-still k h = let o = m .opposed k h in let b = o .high in record { low = o .low; high = omega arith; true = o .true }
@@ -339,8 +246,8 @@ merged-none ls same other nexts z w = record {
 
 -- ---- the next line, i, below n lines
 
-module _ (a : ℕ) (ls : List Entry) (down : Downward a ls) (n i : ℕ) (e : i ≡ n + 1) (inside : i ≤ length ls) (small : i ≤ 938)
-    (same other nexts same′ : List ℕ) (top : ℕ) (size : length same ≡ 1024) (sizeOther : length other ≡ 1024) (sizeNexts : length nexts ≡ 1024)
+module _ (a : ℕ) (ls : List Entry) (down : Downward a ls) (n i : ℕ) (e : i ≡ n + 1) (inside : i ≤ length ls) (small : i ≤ writtenMost)
+    (same other nexts same′ : List ℕ) (top : ℕ) (size : length same ≡ linePlaces) (sizeOther : length other ≡ linePlaces) (sizeNexts : length nexts ≡ linePlaces)
     (m : Merged ls n same other nexts top) where
   pub next-kept : same′ ≡ set same i i → Merged ls i same′ other nexts top
   next-kept s = rw (s, e) (merged-kept a ls down n (omega arith) (omega arith) same other nexts top size sizeOther sizeNexts m)
@@ -370,12 +277,12 @@ module _ (a : ℕ) (ls : List Entry) (down : Downward a ls) (n i : ℕ) (e : i �
       (subst (λ (z : ℕ). ((getD other x 0 ≡ y) × (u ≡ z)) ⊎ (u ≡ top)) e q))
 
 -- the table is as long as it was
-pub kept-next-length : (nexts nexts′ : List ℕ) (r i t : ℕ) → length nexts ≡ 1024
-    → ((1 ≤ r) × (r ≡ getD nexts t 0) × (nexts′ ≡ nexts)) ⊎ ((r ≡ i) × (nexts′ ≡ set nexts t i)) → length nexts′ ≡ 1024
+pub kept-next-length : (nexts nexts′ : List ℕ) (r i t : ℕ) → length nexts ≡ linePlaces
+    → ((1 ≤ r) × (r ≡ getD nexts t 0) × (nexts′ ≡ nexts)) ⊎ ((r ≡ i) × (nexts′ ≡ set nexts t i)) → length nexts′ ≡ linePlaces
 kept-next-length nexts nexts′ r i t size (inl x) = ap length (x .2) ∙ size
 kept-next-length nexts nexts′ r i t size (inr x) = ap length (x .1) ∙ length-set nexts t i ∙ size
 
-pub kept-length : (other other′ : List ℕ) (r i t : ℕ) → length other ≡ 1024
-    → ((1 ≤ r) × (r ≡ getD other t 0) × (other′ ≡ other)) ⊎ ((r ≡ i) × (other′ ≡ set (set other t i) i t)) → length other′ ≡ 1024
+pub kept-length : (other other′ : List ℕ) (r i t : ℕ) → length other ≡ linePlaces
+    → ((1 ≤ r) × (r ≡ getD other t 0) × (other′ ≡ other)) ⊎ ((r ≡ i) × (other′ ≡ set (set other t i) i t)) → length other′ ≡ linePlaces
 kept-length other other′ r i t size (inl x) = ap length (x .2) ∙ size
 kept-length other other′ r i t size (inr x) = ap length (x .1) ∙ length-set (set other t i) i t ∙ length-set other t i ∙ size

@@ -1,13 +1,14 @@
 -- Words pasted into the lent space: one word more, and the sheet that its head and its lines make.
 use mathlib.Core.Path.{_≡_, refl, sym, ap, ap₂, _∙_}
-use Prim.Native.Nat.{ℕ, _+_, _*_, _≤_, _<_}
+use Prim.Native.Nat.{ℕ, _+_, _*_, _<_}
 use native.Mathlib.Numerals.{add-one}
 use native.Mathlib.Omega.{arith}
 use mathlib.Core.List.{List, _++_}
 use lib.ListN.{length, getD, set, take, drop}
 use lib.Seq.{paste, paste-suc, take-at, drop-at, drop-drop}
+use Rattle.truth.specs.Passed.{lineWords, nextHead}
 use Rattle.comparison.specs.Comparison.{nextWords}
-use Rattle.comparison.specs.Lines.{Entry, lineWords, head, sheet, HoldsLines}
+use Rattle.comparison.specs.Lines.{Entry, writtenWords, head, sheet, HoldsLines}
 use Rattle.comparison.proofs.Lines.{length-sheet}
 
 pub pasted : (d d′ : List ℕ) (at : ℕ) (s : List ℕ) (i : ℕ) → d′ ≡ paste d at s i → at + i < length d → i < length s → set d′ (at + i) (getD s i 0) ≡ paste d at s (i + 1)
@@ -15,30 +16,30 @@ pasted d d′ at s i e h l = rw (e, add-one) (paste-suc d at s i 0 h l)
 
 -- ---- a space of words with a head, then the words of n lines
 
-head-length : (l : ℕ) → length (head l) ≡ 33
+head-length : (l : ℕ) → length (head l) ≡ nextHead
 unfolding head nextWords
 head-length l = refl
 
 -- the constant words, with the number of lines put in
-pub head-put : (S S₁ : List ℕ) (n : ℕ) → S₁ ≡ paste S 0 (head 0) 33 → set S₁ 3 n ≡ head n ++ drop 33 S
+pub head-put : (S S₁ : List ℕ) (n : ℕ) → S₁ ≡ paste S 0 (head 0) nextHead → set S₁ 3 n ≡ head n ++ drop nextHead S
 unfolding head nextWords
 head-put S S₁ n e = rw e
 
 -- the words of so many lines
-pub held : {w : List ℕ} {ls : List Entry} {n : ℕ} → HoldsLines w ls → length ls ≡ n → take (6 * n) w ≡ lineWords ls
+pub held : {w : List ℕ} {ls : List Entry} {n : ℕ} → HoldsLines w ls → length ls ≡ n → take (lineWords * n) w ≡ writtenWords ls
 held h len = rw len at (h .stands)
 
-module _ (S S₁ S₂ w : List ℕ) (n : ℕ) (h₁ : S₁ ≡ head n ++ drop 33 S) (h₂ : S₂ ≡ paste S₁ 33 w (6 * n)) where
+module _ (S S₁ S₂ w : List ℕ) (n : ℕ) (h₁ : S₁ ≡ head n ++ drop nextHead S) (h₂ : S₂ ≡ paste S₁ nextHead w (lineWords * n)) where
   -- what stands past the lines
-  back : drop (33 + 6 * n) S₁ ≡ drop (33 + 6 * n) S
+  back : drop (nextHead + lineWords * n) S₁ ≡ drop (nextHead + lineWords * n) S
   back =
-      let past : drop 33 S₁ ≡ drop 33 S = ap (drop 33) h₁ ∙ drop-at (head n) (drop 33 S) 33 (head-length n) in
-      sym (drop-drop (6 * n) 33 S₁) ∙ ap (drop (6 * n)) past ∙ drop-drop (6 * n) 33 S
+      let past : drop nextHead S₁ ≡ drop nextHead S = ap (drop nextHead) h₁ ∙ drop-at (head n) (drop nextHead S) nextHead (head-length n) in
+      sym (drop-drop (lineWords * n) nextHead S₁) ∙ ap (drop (lineWords * n)) past ∙ drop-drop (lineWords * n) nextHead S
 
-  pub sheet-pasted : (ls : List Entry) → length ls ≡ n → take (6 * n) w ≡ lineWords ls → S₂ ≡ sheet ls ++ drop (length (sheet ls)) S
+  pub sheet-pasted : (ls : List Entry) → length ls ≡ n → take (lineWords * n) w ≡ writtenWords ls → S₂ ≡ sheet ls ++ drop (length (sheet ls)) S
   unfolding sheet
   sheet-pasted ls len e =
-      let all : 33 + 6 * n ≡ length (sheet ls) = omega (arith, length-sheet ls) in
-      let front : take 33 S₁ ≡ head (length ls) = ap (take 33) h₁ ∙ take-at (head n) (drop 33 S) 33 (head-length n) ∙ ap head (sym len) in
-      h₂ ∙ ap₂ (λ (a b : List ℕ). (a ++ b) ++ drop (33 + 6 * n) S₁) front e
-      ∙ ap (λ (r : List ℕ). (head (length ls) ++ lineWords ls) ++ r) (back ∙ ap (λ (i : ℕ). drop i S) all)
+      let all : nextHead + lineWords * n ≡ length (sheet ls) = omega (arith, length-sheet ls) in
+      let front : take nextHead S₁ ≡ head (length ls) = ap (take nextHead) h₁ ∙ take-at (head n) (drop nextHead S) nextHead (head-length n) ∙ ap head (sym len) in
+      h₂ ∙ ap₂ (λ (a b : List ℕ). (a ++ b) ++ drop (nextHead + lineWords * n) S₁) front e
+      ∙ ap (λ (r : List ℕ). (head (length ls) ++ writtenWords ls) ++ r) (back ∙ ap (λ (i : ℕ). drop i S) all)

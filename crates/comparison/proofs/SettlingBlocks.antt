@@ -5,7 +5,7 @@ use Prim.Native.Nat.{ℕ, _+_, _-_, _≤_, _<_}
 use native.Mathlib.Decide.{ℕ-discrete}
 use native.Mathlib.Omega.{arith}
 use mathlib.Core.List.{List}
-use Rattle.truth.specs.Passed.{kripke, signals}
+use Rattle.truth.specs.Passed.{kripke, signals, nodesMost}
 use Rattle.comparison.specs.Blocks.{Unsplit}
 use Rattle.comparison.specs.Tables.{State, firstOf, secondOf}
 use Rattle.comparison.specs.Stages.{Staged, Divided, Signalled, Settled, Partitioned}
@@ -52,7 +52,7 @@ module _ (M₁ M₂ : List ℕ) (st st′ : State) (t : Turned M₁ M₂ st st�
   settled-end s e = record { signalled = signalled-on s; nexts-done = t .done e }
 
   -- another has fewer blocks that may still come
-  pub turns-fewer : st′ .count ≢ st .count → 128 - st′ .count < 128 - st .count
+  pub turns-fewer : st′ .count ≢ st .count → nodesMost - st′ .count < nodesMost - st .count
   turns-fewer n = omega (arith, n, t .finer .more, blocks-fit M₁ M₂ 5 st′ (t .staged))
 
 -- ---- the end

@@ -3,7 +3,7 @@ use mathlib.Core.Path.{_≡_}
 use mathlib.Core.Logic.{inl, inr, _↔_, Iff·trans, Iff·symm}
 use Prim.Native.Nat.{ℕ}
 use mathlib.Core.List.{List}
-use Rattle.truth.specs.Passed.{lent, lifted, machineRefusal}
+use Rattle.truth.specs.Passed.{lent, lifted, machineRefusal, lineWords}
 use Rattle.truth.specs.Truth.{Keeps}
 use Rattle.truth.proofs.Passed.{start-node}
 use Rattle.truth.proofs.LentTruth.{same-keeps}
@@ -13,7 +13,7 @@ use Rattle.comparison.specs.Needed.{Same, Shortened}
 use Rattle.comparison.proofs.Lines.{lines-are}
 
 module _ (a : ℕ) (ls short : List Entry) (x : Shortened a ls short) where
-  keeps-shorter : (M : List ℕ) → machineRefusal M ≡ 0 → Keeps (lifted 6) M (sheet ls) ↔ Keeps (lifted 6) M (sheet short)
+  keeps-shorter : (M : List ℕ) → machineRefusal M ≡ 0 → Keeps (lifted lineWords) M (sheet ls) ↔ Keeps (lifted lineWords) M (sheet short)
   unfolding Keeps Same
   keeps-shorter M ok = (
     λ k s t. let n = start-node M s t in rw (lines-are short) (x .same M ok s (n .0) (n .1) .0 (rw (lines-are ls) at (k s t))),

@@ -7,7 +7,8 @@ use mathlib.Core.Bool.{Bool, _&&_}
 use borrow.Author.Tests.{le-leb}
 use lib.ListN.{length, getD, length-append}
 use lib.Dec.{leb}
-use Rattle.truth.specs.Passed.{kripke, nodes, signals, within}
+use Rattle.truth.specs.Sizes.{membersMost}
+use Rattle.truth.specs.Passed.{kripke, nodes, signals, within, nodesMost}
 use Rattle.truth.specs.Rows.{rowHas, rowsHas, leadsInto}
 use Rattle.truth.specs.declared.rows.Row.{Row}
 use Rattle.truth.proofs.Passed.{passed, within-in, nodes-sized}
@@ -24,10 +25,10 @@ use Rattle.comparison.proofs.FinerBlocks.{unsplit-as}
 
 -- the nodes 1 to n that pass, in a row
 abbrev pub passing : ℕ → (ℕ → Bool) → ℕ → Bool
-passing n q s = leb s n && (within 1 128 s && q s)
+passing n q s = leb s n && (within 1 membersMost s && q s)
 
-passing-node : (n : ℕ) (q : ℕ → Bool) (s : ℕ) → n ≤ 128 → 1 ≤ s → s ≤ n → passing n q s ≡ q s
-passing-node n q s h lo hi = rw (le-leb s n hi, passed (within 1 128 s) (within-in 1 128 s lo (omega arith)))
+passing-node : (n : ℕ) (q : ℕ → Bool) (s : ℕ) → n ≤ nodesMost → 1 ≤ s → s ≤ n → passing n q s ≡ q s
+passing-node n q s h lo hi = rw (le-leb s n hi, passed (within 1 membersMost s) (within-in 1 membersMost s lo (omega arith)))
 
 -- the nodes of a row with an edge into another, both loaded
 pub loaded-leading : (M B : List ℕ) (r q : Row) (c d s : ℕ) → (r .low ≡ getD B (2 * c) 0) × (r .high ≡ getD B (2 * c + 1) 0)

@@ -5,7 +5,7 @@ use native.Mathlib.Omega.{arith}
 use mathlib.Core.List.{List, _++_}
 use mathlib.Core.Bool.{Bool, not}
 use lib.ListN.{length}
-use Rattle.truth.specs.Passed.{signals}
+use Rattle.truth.specs.Passed.{signals, nodesMost, signalsMost, linesWritten}
 use Rattle.comparison.specs.Lines.{Entry, split, HoldsLines}
 use Rattle.comparison.specs.Blocks.{Members, Split}
 use Rattle.comparison.specs.Refinement.{LinesIn, Refinement, Parted, Lined}
@@ -18,11 +18,11 @@ use Rattle.comparison.proofs.FewBlocks.{blocks-bounded}
 use Rattle.comparison.proofs.Parts.{partMembers, partLines, parted, lined}
 use Rattle.comparison.proofs.FinerBlocks.{finer-split}
 
-pub blocks-fit : (M₁ M₂ : List ℕ) (spare : ℕ) (st : State) → Staged M₁ M₂ spare st → st .count ≤ 128
+pub blocks-fit : (M₁ M₂ : List ℕ) (spare : ℕ) (st : State) → Staged M₁ M₂ spare st → st .count ≤ nodesMost
 blocks-fit M₁ M₂ spare st s =
     blocks-bounded M₁ M₂ (s .accepted₁) (s .accepted₂) (s .bounded) (s .ls) (st .count) (lineOf st) (firstOf st) (secondOf st) (s .refinement)
 
-pub lines-fit : (M₁ M₂ : List ℕ) (spare : ℕ) (st : State) → Staged M₁ M₂ spare st → st .lines + spare ≤ 912
+pub lines-fit : (M₁ M₂ : List ℕ) (spare : ℕ) (st : State) → Staged M₁ M₂ spare st → st .lines + spare ≤ linesWritten signalsMost nodesMost
 lines-fit M₁ M₂ spare st s =
     let blocks = blocks-fit M₁ M₂ spare st s in
     let short = s .short in

@@ -7,15 +7,16 @@ use native.Mathlib.Decide.{decLt}
 use mathlib.Core.List.{List}
 use mathlib.Core.Bool.{Bool, true, false, not, _&&_, Bool·beq, true≢false}
 use lib.Dec.{T, T-not, not-T}
-use Rattle.truth.specs.Passed.{nodes, each}
+use Rattle.truth.specs.Sizes.{membersMost}
+use Rattle.truth.specs.Passed.{nodes, each, nodesMost}
 use Rattle.truth.proofs.Passed.{and-left, and-right, and-both, each-at, each-in, find, start-node}
 use Rattle.truth.proofs.labelling.StartRows.{startTest, start-tested, tested-start}
 use Rattle.comparison.specs.Blocks.{Members, HasStart, OneStart}
 use Rattle.comparison.specs.Sides.{OneSided}
 
-module _ (M : List ℕ) (small : nodes M ≤ 128) (x : ℕ → Bool) (starts : (s : ℕ) → x s ≡ startTest M small s) where
+module _ (M : List ℕ) (small : nodes M ≤ nodesMost) (x : ℕ → Bool) (starts : (s : ℕ) → x s ≡ startTest M small s) where
   -- the block meets the row
-  pub has-start : (mem : Members) (c : ℕ) (r : Bool) → r ≡ not (each 128 (λ s. not (mem c s && x s))) → T r ↔ HasStart M mem c
+  pub has-start : (mem : Members) (c : ℕ) (r : Bool) → r ≡ not (each membersMost (λ s. not (mem c s && x s))) → T r ↔ HasStart M mem c
   unfolding HasStart
   has-start mem c r e = (
     λ t. ⊎-elim
@@ -25,16 +26,16 @@ module _ (M : List ℕ) (small : nodes M ≤ 128) (x : ℕ → Bool) (starts : (
               (subst T (starts (f .0)) (and-right (mem c (f .0)) (x (f .0)) (f .3))),
           and-left (mem c (f .0)) (x (f .0)) (f .3),
         ))
-        (λ none. absurd (T-not (each 128 (λ s. not (mem c s && x s))) (subst T e t) (each-in 128 (λ s. not (mem c s && x s)) none)))
-        (find 128 (λ s. mem c s && x s)),
-    λ h. rw e (not-T (each 128 (λ s. not (mem c s && x s))) (λ all.
+        (λ none. absurd (T-not (each membersMost (λ s. not (mem c s && x s))) (subst T e t) (each-in membersMost (λ s. not (mem c s && x s)) none)))
+        (find membersMost (λ s. mem c s && x s)),
+    λ h. rw e (not-T (each membersMost (λ s. not (mem c s && x s))) (λ all.
         let n = start-node M (h .0) (h .1) in
-        T-not (mem c (h .0) && x (h .0)) (each-at 128 (λ s. not (mem c s && x s)) all (h .0) (n .0) (omega arith))
+        T-not (mem c (h .0) && x (h .0)) (each-at membersMost (λ s. not (mem c s && x s)) all (h .0) (n .0) (omega arith))
         (and-both (mem c (h .0)) (x (h .0)) (h .2) (subst T (sym (starts (h .0))) (start-tested M small (h .0) (h .1)))))),
   )
 
 -- with the members of the block in another row
-pub same-test : (p q x : ℕ → Bool) → ((s : ℕ) → p s ≡ q s) → not (each 128 (λ s. not (p s && x s))) ≡ not (each 128 (λ s. not (q s && x s)))
+pub same-test : (p q x : ℕ → Bool) → ((s : ℕ) → p s ≡ q s) → not (each membersMost (λ s. not (p s && x s))) ≡ not (each membersMost (λ s. not (q s && x s)))
 same-test p q x e = simp e
 
 -- ---- two tests that agree, or do not, as the code asks it
@@ -58,9 +59,9 @@ one-start M₁ M₂ m₁ m₂ c false false f g n = absurd (true≢false (sym n)
 
 -- ---- the loop over the blocks
 
-module _ (M₁ M₂ : List ℕ) (m₁ m₂ : Members) (few₁ : nodes M₁ ≤ 128) (few₂ : nodes M₂ ≤ 128) (x₁ x₂ : ℕ → Bool)
+module _ (M₁ M₂ : List ℕ) (m₁ m₂ : Members) (few₁ : nodes M₁ ≤ nodesMost) (few₂ : nodes M₂ ≤ nodesMost) (x₁ x₂ : ℕ → Bool)
     (starts₁ : (s : ℕ) → x₁ s ≡ startTest M₁ few₁ s) (starts₂ : (s : ℕ) → x₂ s ≡ startTest M₂ few₂ s) where
-  module _ (c : ℕ) (b₁ b₂ : Bool) (e₁ : b₁ ≡ not (each 128 (λ s. not (m₁ c s && x₁ s)))) (e₂ : b₂ ≡ not (each 128 (λ s. not (m₂ c s && x₂ s)))) where
+  module _ (c : ℕ) (b₁ b₂ : Bool) (e₁ : b₁ ≡ not (each membersMost (λ s. not (m₁ c s && x₁ s)))) (e₂ : b₂ ≡ not (each membersMost (λ s. not (m₂ c s && x₂ s)))) where
     pub side-found : (count : ℕ) → c < count → not (Bool·beq b₁ b₂) ≡ true → OneSided M₁ M₂ m₁ m₂ count (c + 1)
     side-found count h n = record {
       high = omega arith;

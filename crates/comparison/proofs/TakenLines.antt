@@ -3,9 +3,10 @@ use mathlib.Core.Path.{_≡_, refl, sym, ap, ap₂, _∙_}
 use Prim.Native.Nat.{ℕ, _+_, _-_, _*_, _≤_, _<_}
 use native.Mathlib.Omega.{arith}
 use mathlib.Core.List.{List}
-use lib.ListN.{length, getD, take}
+use lib.ListN.{length, getD}
 use lib.Seq.{getD-take}
-use Rattle.comparison.specs.Lines.{Entry, sig, neg, alt, next, words, lineWords, entry, HoldsLines}
+use Rattle.truth.specs.Passed.{lineWords}
+use Rattle.comparison.specs.Lines.{Entry, sig, neg, alt, next, words, writtenWords, entry, HoldsLines}
 use Rattle.comparison.proofs.Lines.{word-of-line}
 
 by-zero : (l : Entry) → getD (words l) 0 0 ≡ 0 → l ≡ sig (getD (words l) 1 0)
@@ -36,16 +37,16 @@ by-rest (neg j) e = absurd (omega arith)
 by-rest (alt i j) e = absurd (omega arith)
 by-rest (next j) e = refl
 
-module _ (w : List ℕ) (i k : ℕ) (lo : 1 ≤ i) (at : k ≡ 6 * (i - 1)) (ls : List Entry) (h : HoldsLines w ls) (hi : i ≤ length ls) where
-  word-at : (n : ℕ) → n < 6 → getD (words (entry ls i)) n 0 ≡ getD w (k + n) 0
+module _ (w : List ℕ) (i k : ℕ) (lo : 1 ≤ i) (at : k ≡ lineWords * (i - 1)) (ls : List Entry) (h : HoldsLines w ls) (hi : i ≤ length ls) where
+  word-at : (n : ℕ) → n < lineWords → getD (words (entry ls i)) n 0 ≡ getD w (k + n) 0
   unfolding entry
   word-at n m =
-      let e : 6 * (i - 1) + n ≡ k + n = omega arith in
-      let b : k + n < 6 * length ls = omega arith in
+      let e : lineWords * (i - 1) + n ≡ k + n = omega arith in
+      let b : k + n < lineWords * length ls = omega arith in
       sym (word-of-line ls (i - 1) n m)
-      ∙ ap (λ (j : ℕ). getD (lineWords ls) j 0) e
+      ∙ ap (λ (j : ℕ). getD (writtenWords ls) j 0) e
       ∙ ap (λ (l : List ℕ). getD l (k + n) 0) (sym (h .stands))
-      ∙ getD-take (6 * length ls) w (k + n) 0 b
+      ∙ getD-take (lineWords * length ls) w (k + n) 0 b
 
   first : getD (words (entry ls i)) 0 0 ≡ getD w k 0
   first = let e : k + 0 ≡ k = omega arith in word-at 0 (omega arith) ∙ ap (λ (j : ℕ). getD w j 0) e

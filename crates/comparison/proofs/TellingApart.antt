@@ -5,7 +5,7 @@ use Prim.Native.Nat.{ℕ, _+_, _≤_}
 use native.Mathlib.Omega.{arith}
 use mathlib.Core.List.{List, [], _∷_, _++_}
 use lib.ListN.{length, length-append}
-use Rattle.truth.specs.Passed.{nodes, lifted, lines, machineRefusal}
+use Rattle.truth.specs.Passed.{nodes, lifted, lines, machineRefusal, lineWords}
 use Rattle.truth.specs.Truth.{Keeps}
 use Rattle.truth.proofs.Passed.{start-node}
 use Rattle.truth.proofs.LentTruth.{same-keeps}
@@ -38,13 +38,13 @@ module _ (a : ℕ) (ls : List Entry) (down : Downward a ls) (j : ℕ) (lo : 1 �
         (Iff·not (Iff·symm (true-kept ls (neg j ∷ []) M ok a down down-negated j lo hi s l h))))
 
     module _ (mem : Members) (c : ℕ) (exact : Exact M ls j (mem c)) where
-      pub breaks : HasStart M mem c → Keeps (lifted 6) M (sheet (negated ls j)) → ⊥
+      pub breaks : HasStart M mem c → Keeps (lifted lineWords) M (sheet (negated ls j)) → ⊥
       unfolding Exact HasStart Keeps
       breaks x k =
           let r = start-node M (x .0) (x .1) in
           last-says (x .0) (r .0) (r .1) .0 (k (x .0) (x .1)) (exact (x .0) (r .0) (r .1) .1 (x .2))
 
-      pub keeps : (HasStart M mem c → ⊥) → Keeps (lifted 6) M (sheet (negated ls j))
+      pub keeps : (HasStart M mem c → ⊥) → Keeps (lifted lineWords) M (sheet (negated ls j))
       unfolding Exact HasStart Keeps
       keeps f s x =
           let r = start-node M s x in

@@ -7,7 +7,8 @@ use native.Mathlib.Omega.{arith}
 use mathlib.Core.List.{List, [], _∷_}
 use mathlib.Core.Bool.{Bool, _&&_, _||_}
 use lib.Dec.{T, leb, eqb, eqb-refl, le→leb}
-use Rattle.truth.specs.Passed.{nodes, within}
+use Rattle.truth.specs.Sizes.{membersMost}
+use Rattle.truth.specs.Passed.{nodes, within, nodesMost}
 use Rattle.truth.specs.Rows.{marksInto, leadsInto}
 use Rattle.truth.proofs.Passed.{and-both, or-left, within-in}
 use Rattle.truth.proofs.rows.RowLaws.{held-in}
@@ -21,7 +22,7 @@ use Rattle.comparison.proofs.FinerBlocks.{unsplit-as, split-as, finer-n
 use Rattle.comparison.proofs.StagedSplits.{blocks-fit, room, ready-again}
 use Rattle.comparison.proofs.Splitters.{ready-written}
 use Rattle.comparison.proofs.MarkedBlocks.{marks-next, marks-high}
-use Rattle.comparison.proofs.Surveys.{or-right, marked-split}
+use Rattle.comparison.proofs.MarkedNodes.{or-right, marked-split}
 
 four : 4 ≤ 4
 four = omega arith
@@ -39,7 +40,7 @@ pub record Turning (M₁ M₂ : List ℕ) (st st′ : State) (mark₁ mark₂ : 
 
 module _ (M₁ M₂ : List ℕ) (st : State) where
   pub turning-none : Staged M₁ M₂ 5 st → (mark₁ mark₂ : List ℕ) (all : ℕ → Bool) → BlockMarks (firstOf st) (st .count) mark₁ → BlockMarks (secondOf st) (st .count) mark₂
-      → ((e : ℕ) → all e ≡ (leb e (st .count) && within 1 128 e)) → Turning M₁ M₂ st st mark₁ mark₂ all 0
+      → ((e : ℕ) → all e ≡ (leb e (st .count) && within 1 membersMost e)) → Turning M₁ M₂ st st mark₁ mark₂ all 0
   turning-none w mark₁ mark₂ all k₁ k₂ q =
       let fit = blocks-fit M₁ M₂ 5 st w in
       record {
@@ -47,7 +48,7 @@ module _ (M₁ M₂ : List ℕ) (st : State) where
         finer = finer-none st;
         marked₁ = k₁;
         marked₂ = k₂;
-        every = λ e lo hi. rw (q e) (and-both (leb e (st .count)) (within 1 128 e) (le→leb e (st .count) hi) (within-in 1 128 e lo (omega arith)));
+        every = λ e lo hi. rw (q e) (and-both (leb e (st .count)) (within 1 membersMost e) (le→leb e (st .count) hi) (within-in 1 membersMost e lo (omega arith)));
         high = omega arith;
         done = λ z b d l h. absurd (omega arith);
       }
@@ -113,7 +114,7 @@ module _ (M₁ M₂ : List ℕ) (st : State) where
           by-mark : Split M₁ M₂ (firstOf st′) (secondOf st′) c (λ s. marksInto M₁ mark₁ s e) (λ t. marksInto M₂ mark₂ t e)
           by-mark = tells .found n (t .staged .ofNodes c h)
 
-          pub mark-in : (1 ≤ e) × (e ≤ st′ .count) × (e ≤ 128)
+          pub mark-in : (1 ≤ e) × (e ≤ st′ .count) × (e ≤ nodesMost)
           unfolding Split Meets In
           mark-in =
               let fit = blocks-fit M₁ M₂ 5 st′ (t .staged) in
@@ -151,7 +152,7 @@ module _ (M₁ M₂ : List ℕ) (st : State) where
 
             pub turning-more : (st″ : State) (mark₁′ mark₂′ : List ℕ) (all′ : ℕ → Bool) → SplitBlock (written st′ words) st″ c (st′ .lines + 1) x₁ x₂
                 → MarkedRow (firstOf st″ (st″ .count - 1)) (st″ .count - 1 + 1) mark₁ mark₁′ → MarkedRow (secondOf st″ (st″ .count - 1)) (st″ .count - 1 + 1) mark₂ mark₂′
-                → ((i : ℕ) → all′ i ≡ (all i || (within 1 128 (st″ .count) && eqb i (st″ .count)))) → Turning M₁ M₂ st st″ mark₁′ mark₂′ all′ c
+                → ((i : ℕ) → all′ i ≡ (all i || (within 1 membersMost (st″ .count) && eqb i (st″ .count)))) → Turning M₁ M₂ st st″ mark₁′ mark₂′ all′ c
             turning-more st″ mark₁′ mark₂′ all′ b r₁ r₂ q =
                 let now = written st′ words in
                 let p = st′ .lines + 1 in
@@ -172,9 +173,9 @@ module _ (M₁ M₂ : List ℕ) (st : State) where
                       (marked-split (secondOf st′) (secondOf st″) (st′ .count) c x₂ mark₂ mark₂′ h (b .second .parted) (t .marked₂)
                       (subst (λ (k : ℕ). MarkedRow (secondOf st″ k) (k + 1) mark₂ mark₂′) last r₂));
                   every = λ e lo hi. rw (q e) (by-cases (ℕ-discrete e (st″ .count))
-                      (λ i. or-right (all e) (within 1 128 (st″ .count) && eqb e (st″ .count))
-                      (and-both (within 1 128 (st″ .count)) (eqb e (st″ .count)) (within-in 1 128 (st″ .count) (omega arith) fit) (subst (λ (k : ℕ). T (eqb e k)) i (eqb-refl e))))
-                      (λ f. or-left (all e) (within 1 128 (st″ .count) && eqb e (st″ .count)) (t .every e lo (omega arith))));
+                      (λ i. or-right (all e) (within 1 membersMost (st″ .count) && eqb e (st″ .count))
+                      (and-both (within 1 membersMost (st″ .count)) (eqb e (st″ .count)) (within-in 1 membersMost (st″ .count) (omega arith) fit) (subst (λ (k : ℕ). T (eqb e k)) i (eqb-refl e))))
+                      (λ f. or-left (all e) (within 1 membersMost (st″ .count) && eqb e (st″ .count)) (t .every e lo (omega arith))));
                   high = omega arith;
                   done = λ z. absurd (omega arith);
                 }

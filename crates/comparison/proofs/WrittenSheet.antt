@@ -5,7 +5,7 @@ use native.Mathlib.Omega.{arith}
 use mathlib.Core.List.{List, _∷_, _++_}
 use lib.ListN.{length, take, drop}
 use lib.Dec.{T}
-use Rattle.truth.specs.Passed.{nodes, signals, lines, lent, overSignals, machineRefusal}
+use Rattle.truth.specs.Passed.{nodes, signals, lines, lent, overSignals, machineRefusal, nodesMost, nextHead, linesWritten}
 use Rattle.truth.proofs.Passed.{signals-sized}
 use Rattle.truth.proofs.labelling.LabelTable.{label-accepts}
 use Rattle.comparison.specs.Comparison.{Written, ToldApart, nextWords}
@@ -13,12 +13,12 @@ use Rattle.comparison.specs.Lines.{Entry, sheet, Downward}
 use Rattle.comparison.proofs.Lines.{lines-are}
 use Rattle.comparison.proofs.LinesAccepted.{accepted-lent, over-signals}
 
-head-is : (ls : List Entry) → take 33 (sheet ls) ≡ 1 ∷ 4 ∷ 5 ∷ lines (sheet ls) ∷ 1 ∷ 1 ∷ nextWords
+head-is : (ls : List Entry) → take nextHead (sheet ls) ≡ 1 ∷ 4 ∷ 5 ∷ lines (sheet ls) ∷ 1 ∷ 1 ∷ nextWords
 unfolding sheet lines
 head-is ls = refl
 
-pub written : (M₁ M₂ : List ℕ) → machineRefusal M₁ ≡ 0 → machineRefusal M₂ ≡ 0 → signals M₁ ≡ signals M₂ → nodes M₁ + nodes M₂ ≤ 128 → (ls : List Entry) → Downward (signals M₁) ls
-    → 1 ≤ length ls → length ls ≤ signals M₁ + 7 * (nodes M₁ + nodes M₂) → ToldApart M₁ M₂ (sheet ls)
+pub written : (M₁ M₂ : List ℕ) → machineRefusal M₁ ≡ 0 → machineRefusal M₂ ≡ 0 → signals M₁ ≡ signals M₂ → nodes M₁ + nodes M₂ ≤ nodesMost → (ls : List Entry) → Downward (signals M₁) ls
+    → 1 ≤ length ls → length ls ≤ linesWritten (signals M₁) (nodes M₁ + nodes M₂) → ToldApart M₁ M₂ (sheet ls)
     → (before after : List ℕ) → after ≡ sheet ls ++ drop (length (sheet ls)) before → Written M₁ M₂ (sheet ls) before after
 written M₁ M₂ ok₁ ok₂ same few ls down some short apart before after stands =
     let s = signals-sized M₁ ok₁ in

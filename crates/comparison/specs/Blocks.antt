@@ -6,13 +6,13 @@ use Prim.Native.Nat.{ℕ, _≤_, _<_}
 use mathlib.Core.List.{List}
 use mathlib.Core.Bool.{Bool, not}
 use lib.Dec.{T}
-use Rattle.truth.specs.Passed.{kripke, nodes, lifted}
+use Rattle.truth.specs.Passed.{kripke, nodes, lifted, lineWords}
 use Rattle.truth.specs.Truth.{Truths, TrueAt}
 use Rattle.comparison.specs.Lines.{Entry, sheet}
 
 -- the truths of a list of lines
 abbrev pub TrueIn : List ℕ → List Entry → Truths
-TrueIn M ls = TrueAt (lifted 6) M (sheet ls)
+TrueIn M ls = TrueAt (lifted lineWords) M (sheet ls)
 
 -- line j of the sheet is true at exactly the nodes of the set
 unfoldable pub Exact : List ℕ → List Entry → ℕ → (ℕ → Bool) → Type 0

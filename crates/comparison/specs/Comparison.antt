@@ -3,10 +3,9 @@ use mathlib.Core.Path.{_≡_}
 use mathlib.Core.Logic.{_⊎_}
 use Prim.Native.Nat.{ℕ, _+_, _*_, _≤_}
 use mathlib.Core.List.{List, [], _∷_, _++_}
-use mathlib.Core.Bool.{Bool, true, false}
 use lib.ListN.{length, take, drop}
 use lib.Dec.{T, leb, eqb}
-use Rattle.truth.specs.Passed.{none, firstNo, Question, ask, nodes, signals, machineQuestions, machineRefusal, lent, lifted, ruleRefusal, overSignals, lines}
+use Rattle.truth.specs.Passed.{none, firstNo, Question, ask, nodes, signals, lent, lifted, ruleRefusal, overSignals, lines, nodesMost, nextHead, linesWritten, ruleSpace}
 use Rattle.truth.specs.Truth.{Keeps}
 use Rattle.truth.specs.Labelling.{labelQuestions}
 
@@ -41,15 +40,15 @@ nextWords =
 unfoldable pub compareQuestions : List ℕ → List ℕ → ℕ → List Question
 unfolding signals nodes
 compareQuestions M₁ M₂ space =
-    ask 20 0 (eqb (signals M₁) (signals M₂)) ∷ ask 21 0 (leb (nodes M₁ + nodes M₂) 128)
-    ∷ ask 22 0 (leb (33 + 6 * (signals M₁ + 7 * (nodes M₁ + nodes M₂))) space) ∷ []
+    ask 20 0 (eqb (signals M₁) (signals M₂)) ∷ ask 21 0 (leb (nodes M₁ + nodes M₂) nodesMost)
+    ∷ ask 22 0 (leb (ruleSpace (signals M₁) (nodes M₁ + nodes M₂)) space) ∷ []
 
 -- a rule sheet R stands at the head of the space, and the words past it are as before; it is over the signals of both machines, and
 -- labelling accepts it with each of them, in any space that is large enough
 pub record Written (M₁ M₂ R before after : List ℕ) : Type 0 where
   pub stands : after ≡ R ++ drop (length R) before
-  pub head : take 33 R ≡ 1 ∷ 4 ∷ 5 ∷ lines R ∷ 1 ∷ 1 ∷ nextWords
-  pub short : lines R ≤ signals M₁ + 7 * (nodes M₁ + nodes M₂)
+  pub head : take nextHead R ≡ 1 ∷ 4 ∷ 5 ∷ lines R ∷ 1 ∷ 1 ∷ nextWords
+  pub short : lines R ≤ linesWritten (signals M₁) (nodes M₁ + nodes M₂)
   pub accepted : ruleRefusal lent R ≡ 0
   pub over₁ : T (overSignals lent (signals M₁) R)
   pub over₂ : T (overSignals lent (signals M₂) R)

@@ -1,4 +1,5 @@
 -- The definitions of comparison.
+pub mod Sizes
 pub mod Comparison
 pub mod Lines
 pub mod Blocks

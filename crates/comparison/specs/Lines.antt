@@ -3,6 +3,8 @@ use mathlib.Core.Path.{_≡_}
 use Prim.Native.Nat.{ℕ, zero, suc, _+_, _-_, _*_, _≤_, _<_}
 use mathlib.Core.List.{List, [], _∷_, _++_}
 use lib.ListN.{length, getD, take}
+use Rattle.truth.specs.Passed.{signalsMost, lineWords, signalOperation, negationOperation, eitherOperation, somePathOperation}
+use Rattle.comparison.specs.Sizes.{writtenSpace}
 use Rattle.comparison.specs.Comparison.{nextWords}
 
 -- signal i; not line j; line i or line j; some next node has line j
@@ -12,27 +14,27 @@ pub data Entry : Type 0 where
   alt : ℕ → ℕ → Entry
   next : ℕ → Entry
 
--- the six words of a line record
+-- the words of a line record
 unfoldable pub words : Entry → List ℕ
-words (sig i) = 0 ∷ i ∷ 0 ∷ 0 ∷ 0 ∷ 0 ∷ []
-words (neg j) = 1 ∷ j ∷ 0 ∷ 0 ∷ 0 ∷ 0 ∷ []
-words (alt i j) = 2 ∷ i ∷ j ∷ 0 ∷ 0 ∷ 0 ∷ []
-words (next j) = 3 ∷ 1 ∷ j ∷ 0 ∷ 0 ∷ 0 ∷ []
+words (sig i) = signalOperation ∷ i ∷ 0 ∷ 0 ∷ 0 ∷ 0 ∷ []
+words (neg j) = negationOperation ∷ j ∷ 0 ∷ 0 ∷ 0 ∷ 0 ∷ []
+words (alt i j) = eitherOperation ∷ i ∷ j ∷ 0 ∷ 0 ∷ 0 ∷ []
+words (next j) = somePathOperation ∷ 1 ∷ j ∷ 0 ∷ 0 ∷ 0 ∷ []
 
-unfoldable pub lineWords : List Entry → List ℕ
+unfoldable pub writtenWords : List Entry → List ℕ
 unfolding words
-lineWords [] = []
-lineWords (l ∷ ls) = words l ++ lineWords ls
+writtenWords [] = []
+writtenWords (l ∷ ls) = words l ++ writtenWords ls
 
--- the 33 words before the lines
+-- the words before the lines
 unfoldable pub head : ℕ → List ℕ
 unfolding nextWords
 head l = 1 ∷ 4 ∷ 5 ∷ l ∷ 1 ∷ 1 ∷ nextWords
 
 -- the rule sheet of a list of lines
 unfoldable pub sheet : List Entry → List ℕ
-unfolding head lineWords
-sheet ls = head (length ls) ++ lineWords ls
+unfolding head writtenWords
+sheet ls = head (length ls) ++ writtenWords ls
 
 -- line j of the list; lines count from 1
 unfoldable pub entry : List Entry → ℕ → Entry
@@ -47,7 +49,7 @@ Refers a j (next i) = (1 ≤ i) × (i < j)
 
 -- a list of lines over a signals, at most 16, each of which refers only to lines above it
 pub record Downward (a : ℕ) (ls : List Entry) : Type 0 where
-  pub few : a ≤ 16
+  pub few : a ≤ signalsMost
   pub refers : (j : ℕ) → 1 ≤ j → j ≤ length ls → Refers a j (entry ls j)
 
 -- lines 1 to a are the signals
@@ -68,12 +70,12 @@ firstLines a = signalLines a ++ everywhere (length (signalLines a)) 1
 unfoldable pub split : ℕ → ℕ → ℕ → List Entry
 split n b p = neg b ∷ neg p ∷ alt (n + 1) (n + 2) ∷ neg (n + 3) ∷ alt (n + 1) p ∷ neg (n + 5) ∷ []
 
--- the words of the lines stand at the head of the space of 5632 words, enough for 938 lines
+-- the words of the lines stand at the head of the space in which lines are written
 pub record HoldsLines (space : List ℕ) (ls : List Entry) : Type 0 where
-  pub size : length space ≡ 5632
-  pub stands : take (6 * length ls) space ≡ lineWords ls
+  pub size : length space ≡ writtenSpace
+  pub stands : take (lineWords * length ls) space ≡ writtenWords ls
 
 -- below n lines, whatever they are, the lines `more` are written
 pub record Adds (before after : List ℕ) (n : ℕ) (more : List Entry) : Type 0 where
-  pub size : length after ≡ 5632
+  pub size : length after ≡ writtenSpace
   pub adds : (ls : List Entry) → length ls ≡ n → HoldsLines before ls → HoldsLines after (ls ++ more)

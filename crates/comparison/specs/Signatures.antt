@@ -7,6 +7,7 @@ use mathlib.Core.Bool.{Bool, true, not}
 use lib.ListN.{length, getD}
 use lib.Dec.{T}
 use Rattle.truth.specs.Rows.{rowHas, marksInto}
+use Rattle.comparison.specs.Sizes.{nodePlaces}
 use Rattle.comparison.specs.Blocks.{Members, Unsplit, Split}
 use Rattle.comparison.specs.Tables.{State, firstOf, secondOf, OfNodes}
 use Rattle.comparison.specs.Stages.{Staged, Finer, NextsDone}
@@ -16,7 +17,7 @@ use Rattle.comparison.specs.declared.signatures.Lead.{Lead}
 
 -- the nodes of the row have the mark e, the others have theirs as before
 pub record MarkedRow (row : ℕ → Bool) (e : ℕ) (before after : List ℕ) : Type 0 where
-  pub size : length after ≡ 256
+  pub size : length after ≡ nodePlaces
   pub here : (s : ℕ) → T (row s) → getD after s 0 ≡ e
   pub others : (s : ℕ) → (T (row s) → ⊥) → getD after s 0 ≡ getD before s 0
 

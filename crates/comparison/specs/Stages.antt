@@ -5,10 +5,11 @@ use mathlib.Core.List.{List}
 use mathlib.Core.Bool.{Bool}
 use lib.ListN.{length, getD, take}
 use lib.Dec.{T}
-use Rattle.truth.specs.Passed.{kripke, nodes, signals, machineRefusal}
+use Rattle.truth.specs.Passed.{kripke, signals, machineRefusal, lineWords, linesWritten}
 use Rattle.truth.specs.Rows.{rowsHas, leadsInto}
+use Rattle.comparison.specs.Sizes.{blockPlaces, blockWords}
 use Rattle.comparison.specs.Bounded.{Bounded}
-use Rattle.comparison.specs.Lines.{Entry, sig, lineWords, entry, HoldsLines}
+use Rattle.comparison.specs.Lines.{Entry, sig, writtenWords, entry, HoldsLines}
 use Rattle.comparison.specs.Blocks.{Exact, Members, Unsplit, Split}
 use Rattle.comparison.specs.Refinement.{Refinement}
 use Rattle.comparison.specs.Tables.{State, firstOf, secondOf, lineOf, OfNodes}
@@ -20,9 +21,9 @@ pub record Staged (M₁ M₂ : List ℕ) (spare : ℕ) (st : State) : Type 0 whe
   pub accepted₁ : machineRefusal M₁ ≡ 0
   pub accepted₂ : machineRefusal M₂ ≡ 0
   pub bounded : Bounded M₁ M₂
-  pub size₁ : length (st .first) ≡ 512
-  pub size₂ : length (st .second) ≡ 512
-  pub sizeLine : length (st .line) ≡ 256
+  pub size₁ : length (st .first) ≡ blockWords
+  pub size₂ : length (st .second) ≡ blockWords
+  pub sizeLine : length (st .line) ≡ blockPlaces
   pub ls : List Entry
   pub number : length ls ≡ st .lines
   pub holds : HoldsLines (st .words) ls
@@ -30,7 +31,7 @@ pub record Staged (M₁ M₂ : List ℕ) (spare : ℕ) (st : State) : Type 0 whe
   pub ofNodes : (c : ℕ) → c < st .count → OfNodes M₁ M₂ (firstOf st) (secondOf st) c
   pub signal : (i : ℕ) → 1 ≤ i → i ≤ signals M₁ → entry ls i ≡ sig i
   pub below : signals M₁ ≤ st .lines
-  pub short : st .lines + spare ≤ signals M₁ + 7 * st .count
+  pub short : st .lines + spare ≤ linesWritten (signals M₁) (st .count)
 
 -- ---- a splitter: two sets, and the line that is true there
 
@@ -109,8 +110,8 @@ pub record Settled (M₁ M₂ : List ℕ) (st : State) : Type 0 where
 pub record Partitioned (M₁ M₂ : List ℕ) (p : Partition) : Type 0 where
   pub ls : List Entry
   pub number : length ls ≡ p .lines
-  pub stands : take (6 * p .lines) (p .words) ≡ lineWords ls
+  pub stands : take (lineWords * p .lines) (p .words) ≡ writtenWords ls
   pub refinement : Refinement (signals M₁) M₁ M₂ ls (p .count) (λ c. getD (p .line) c 0) (rowsHas (p .first)) (rowsHas (p .second))
-  pub short : p .lines + 5 ≤ signals M₁ + 7 * p .count
+  pub short : p .lines + 5 ≤ linesWritten (signals M₁) (p .count)
   pub signals-done : SignalsDone M₁ M₂ (p .count) (rowsHas (p .first)) (rowsHas (p .second))
   pub nexts-done : NextsDone M₁ M₂ (p .count) (rowsHas (p .first)) (rowsHas (p .second))

@@ -5,8 +5,9 @@ use mathlib.Core.List.{List}
 use mathlib.Core.Bool.{Bool, true, false}
 use lib.ListN.{length, getD}
 use lib.Dec.{T}
-use Rattle.truth.specs.Passed.{nodes}
+use Rattle.truth.specs.Passed.{nodes, nodesMost}
 use Rattle.truth.specs.Rows.{rowsHas}
+use Rattle.comparison.specs.Sizes.{writtenSpace, writtenMost, blockPlaces, blockWords}
 use Rattle.comparison.specs.Lines.{split, Adds}
 use Rattle.comparison.specs.Blocks.{Members, Meets, Unsplit, Split}
 use Rattle.comparison.specs.Refinement.{Parted, Lined}
@@ -55,11 +56,11 @@ written st words = record {
 -- ---- a split
 
 pub record PartedRows (count c : ℕ) (x : ℕ → Bool) (before after : List ℕ) : Type 0 where
-  pub size : length after ≡ 512
+  pub size : length after ≡ blockWords
   pub parted : Parted count c x (rowsHas before) (rowsHas after)
 
 pub record LinedBlocks (count c n : ℕ) (before after : List ℕ) : Type 0 where
-  pub size : length after ≡ 256
+  pub size : length after ≡ blockPlaces
   pub lined : Lined count c n (λ d. getD before d 0) (λ d. getD after d 0)
 
 -- the numbers after a split
@@ -70,12 +71,12 @@ pub record Advanced (before after : Stand) : Type 0 where
 -- room for a split of block c
 pub record Room (st : State) (c : ℕ) : Type 0 where
   pub block : c < st .count
-  pub count : st .count < 128
-  pub lines : st .lines + 6 ≤ 938
-  pub first : length (st .first) ≡ 512
-  pub second : length (st .second) ≡ 512
-  pub line : length (st .line) ≡ 256
-  pub words : length (st .words) ≡ 5632
+  pub count : st .count < nodesMost
+  pub lines : st .lines + 6 ≤ writtenMost
+  pub first : length (st .first) ≡ blockWords
+  pub second : length (st .second) ≡ blockWords
+  pub line : length (st .line) ≡ blockPlaces
+  pub words : length (st .words) ≡ writtenSpace
 
 -- block c was split by the sets, where line p is true
 pub record SplitBlock (st st′ : State) (c p : ℕ) (x₁ x₂ : ℕ → Bool) : Type 0 where

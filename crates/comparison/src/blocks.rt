@@ -3,8 +3,11 @@ ghost use mathlib.Core.Path.{_≡_};
 ghost use mathlib.Core.List.{List};
 ghost use Prim.Native.Nat.{ℕ, _<_};
 ghost use lib.ListN.{length};
+ghost use Rattle.truth.specs.Passed.{nodesMost};
 ghost use Rattle.truth.specs.Rows.{rowHas, rowsHas};
+ghost use Rattle.comparison.specs.Sizes.{writtenMost, blockPlaces, blockWords};
 ghost use Rattle.comparison.specs.Tables.{state, PartedRows, LinedBlocks, Advanced, Room, SplitBlock, TellsMeets, TellsSplit};
+use crate::sizes;
 use crate::writing::write_split;
 use truth::rows::Row;
 use truth::tables::load;
@@ -18,7 +21,7 @@ pub struct Stand {
 
 impl Stand {
     fn after_split(self) -> Stand
-        requires { ⌜ (self .count < 128) × (self .lines < 938) ⌝ }
+        requires { ⌜ (self .count < nodesMost) × (self .lines < writtenMost) ⌝ }
         ensures { λ r. ⌜ Advanced self r ⌝ }
     {
         Stand {
@@ -29,8 +32,8 @@ impl Stand {
 }
 
 // Row c is parted by the set x: the part outside it becomes row `count`.
-fn part(rows: &mut [u64; 512], count: u16, c: u16, x: Row)
-    requires { ⌜ (c < count) × (count < 256) × (length (now rows) ≡ 512) ⌝ }
+fn part(rows: &mut [u64; sizes::BLOCK_WORDS], count: u16, c: u16, x: Row)
+    requires { ⌜ (c < count) × (count < blockPlaces) × (length (now rows) ≡ blockWords) ⌝ }
     ensures { λ r. ⌜ PartedRows count c (rowHas x) (now (rows .entry)) (now (rows .exit)) ⌝ }
 {
     let row = load(rows, c as usize);
@@ -39,8 +42,8 @@ fn part(rows: &mut [u64; 512], count: u16, c: u16, x: Row)
 }
 
 // The lines of the two parts, below n lines.
-fn relabel(line: &mut [u16; 256], count: u16, c: u16, n: u16)
-    requires { ⌜ (c < count) × (count < 256) × (n < 938) × (length (now line) ≡ 256) ⌝ }
+fn relabel(line: &mut [u16; sizes::BLOCK_PLACES], count: u16, c: u16, n: u16)
+    requires { ⌜ (c < count) × (count < blockPlaces) × (n < writtenMost) × (length (now line) ≡ blockPlaces) ⌝ }
     ensures { λ r. ⌜ LinedBlocks count c n (now (line .entry)) (now (line .exit)) ⌝ }
 {
     line[c as usize] = n + 4;
@@ -48,8 +51,14 @@ fn relabel(line: &mut [u16; 256], count: u16, c: u16, n: u16)
 }
 
 // Whether block c has a node in the set x1 of the first machine's nodes, or in x2 of the second's.
-fn block_meets(first: &[u64; 512], second: &[u64; 512], c: u16, x1: Row, x2: Row) -> bool
-    requires { ⌜ c < 256 ⌝ }
+fn block_meets(
+    first: &[u64; sizes::BLOCK_WORDS],
+    second: &[u64; sizes::BLOCK_WORDS],
+    c: u16,
+    x1: Row,
+    x2: Row,
+) -> bool
+    requires { ⌜ c < blockPlaces ⌝ }
     ensures { λ r. ⌜ ((M₁ M₂ : List ℕ) → TellsMeets M₁ M₂ (rowsHas (now (first .entry))) (rowsHas (now (second .entry))) c (rowHas x1) (rowHas x2) r) ⌝ }
 {
     let row1 = load(first, c as usize);
@@ -61,8 +70,14 @@ fn block_meets(first: &[u64; 512], second: &[u64; 512], c: u16, x1: Row, x2: Row
 }
 
 // Whether the sets split block c: it has a node in them and one outside.
-pub fn splits(first: &[u64; 512], second: &[u64; 512], c: u16, x1: Row, x2: Row) -> bool
-    requires { ⌜ c < 256 ⌝ }
+pub fn splits(
+    first: &[u64; sizes::BLOCK_WORDS],
+    second: &[u64; sizes::BLOCK_WORDS],
+    c: u16,
+    x1: Row,
+    x2: Row,
+) -> bool
+    requires { ⌜ c < blockPlaces ⌝ }
     ensures { λ r. ⌜ ((M₁ M₂ : List ℕ) → TellsSplit M₁ M₂ (rowsHas (now (first .entry))) (rowsHas (now (second .entry))) c (rowHas x1) (rowHas x2) r) ⌝ }
 {
     if !block_meets(first, second, c, x1, x2) {
@@ -73,10 +88,10 @@ pub fn splits(first: &[u64; 512], second: &[u64; 512], c: u16, x1: Row, x2: Row)
 
 // Block c is split by the sets x1 and x2, where line p is true.
 pub fn split_block(
-    first: &mut [u64; 512],
-    second: &mut [u64; 512],
-    line: &mut [u16; 256],
-    words: &mut [u16; 5632],
+    first: &mut [u64; sizes::BLOCK_WORDS],
+    second: &mut [u64; sizes::BLOCK_WORDS],
+    line: &mut [u16; sizes::BLOCK_PLACES],
+    words: &mut [u16; sizes::WRITTEN_SPACE],
     stand: Stand,
     c: u16,
     p: u16,

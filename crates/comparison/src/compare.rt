@@ -1,12 +1,15 @@
 // The comparison: its questions, its answer, and the rule that tells the two machines apart.
 ghost use mathlib.Core.Path.{_≡_};
 ghost use Prim.Native.Nat.{ℕ, _+_, _-_, _*_, _<_, _≤_};
-ghost use mathlib.Core.Bool.{Bool, not, _&&_};
+ghost use mathlib.Core.Bool.{not, _&&_};
 ghost use mathlib.Core.List.{List, _++_};
 ghost use lib.ListN.{length, drop};
 ghost use lib.Seq.{paste};
+ghost use Rattle.truth.specs.Sizes.{membersMost};
+ghost use Rattle.truth.specs.Passed.{nodesMost, lineWords, nextHead};
 ghost use Rattle.truth.specs.Passed as Passed;
 ghost use Rattle.truth.specs.Rows.{rowHas, rowsHas};
+ghost use Rattle.comparison.specs.Sizes.{writtenSpace, writtenMost, blockPlaces};
 ghost use Rattle.comparison.specs.Comparison as Comparison;
 ghost use Rattle.comparison.specs.Lines.{Entry, head, sheet, Downward, HoldsLines};
 ghost use Rattle.comparison.specs.Needed.{Listed, Shortened};
@@ -14,6 +17,7 @@ ghost use Rattle.comparison.specs.Sides.{OneSided};
 ghost use Rattle.comparison.specs.CompareAnswers.{comparisonQuestions, CompareAnswer};
 use crate::needed::shorten;
 use crate::refine::refine;
+use crate::sizes;
 use crate::writing::write_not;
 use truth::header;
 use truth::rows::Row;
@@ -28,7 +32,7 @@ pub enum Answer {
 }
 
 // The words of a written rule before its lines: the header, of which the number of lines is put in, and the automaton Next.
-const NEXT: [u16; 33] = [
+const NEXT: [u16; sizes::NEXT_HEAD] = [
     1,
     4,
     5,
@@ -79,10 +83,10 @@ fn last_refusal(m1: &[u16], m2: &[u16], space: usize) -> u16
         return 20;
     }
     let n = header::nodes(m1) as usize + header::nodes(m2) as usize;
-    if n > 128 {
+    if n > sizes::NODES {
         return 21;
     }
-    if space < 33 + 6 * (a as usize + 7 * n) {
+    if space < sizes::NEXT_HEAD + sizes::LINE_WORDS * (a as usize + sizes::LINES_A_NODE * n) {
         return 22;
     }
     0
@@ -113,9 +117,9 @@ fn compare_refusal(m1: &[u16], m2: &[u16], space: usize) -> FirstNo
 }
 
 // Whether block c of a machine has a node of the row.
-fn block_has(rows: &[u64; 512], c: u16, x: Row) -> bool
-    requires { ⌜ c < 256 ⌝ }
-    ensures { λ r. ⌜ r ≡ not (Passed.each 128 (λ s. not (rowsHas (now (rows .entry)) c s && rowHas x s))) ⌝ }
+fn block_has(rows: &[u64; sizes::BLOCK_WORDS], c: u16, x: Row) -> bool
+    requires { ⌜ c < blockPlaces ⌝ }
+    ensures { λ r. ⌜ r ≡ not (Passed.each membersMost (λ s. not (rowsHas (now (rows .entry)) c s && rowHas x s))) ⌝ }
 {
     load(rows, c as usize).meets(x)
 }
@@ -124,11 +128,11 @@ fn block_has(rows: &[u64; 512], c: u16, x: Row) -> bool
 fn one_sided<'a>(
     m1: &[u16],
     m2: &[u16],
-    first: &'a [u64; 512],
-    second: &'a [u64; 512],
+    first: &'a [u64; sizes::BLOCK_WORDS],
+    second: &'a [u64; sizes::BLOCK_WORDS],
     count: u16,
 ) -> u16
-    requires { ⌜ (Passed.nodes (now m1) ≤ 128) × (Passed.nodes (now m2) ≤ 128) × (count ≤ 256) ⌝ }
+    requires { ⌜ (Passed.nodes (now m1) ≤ nodesMost) × (Passed.nodes (now m2) ≤ nodesMost) × (count ≤ blockPlaces) ⌝ }
     ensures { λ r. ⌜ OneSided (now (m1 .entry)) (now (m2 .entry)) (rowsHas (now (first .entry))) (rowsHas (now (second .entry))) count r ⌝ }
 {
     let starts1 = structure::start_row(m1);
@@ -159,27 +163,32 @@ fn copy(space: &mut [u16], at: usize, words: &[u16], n: usize)
 
 // The words before the lines, for a rule of n lines.
 fn put_head(space: &mut [u16], n: u16)
-    requires { ⌜ 33 ≤ length (now space) ⌝ }
-    ensures { λ r. ⌜ now (space .exit) ≡ head n ++ drop 33 (now (space .entry)) ⌝ }
+    requires { ⌜ nextHead ≤ length (now space) ⌝ }
+    ensures { λ r. ⌜ now (space .exit) ≡ head n ++ drop nextHead (now (space .entry)) ⌝ }
 {
-    copy(space, 0, &NEXT, 33);
+    copy(space, 0, &NEXT, sizes::NEXT_HEAD);
     space[3] = n;
 }
 
 // The words of n lines.
-fn put_lines(space: &mut [u16], written: &[u16; 5632], n: u16)
-    requires { ⌜ (33 + 6 * n ≤ length (now space)) × (n ≤ 938) × (length (now written) ≡ 5632) ⌝ }
-    ensures { λ r. ⌜ now (space .exit) ≡ paste (now (space .entry)) 33 (now (written .entry)) (6 * n) ⌝ }
+fn put_lines(space: &mut [u16], written: &[u16; sizes::WRITTEN_SPACE], n: u16)
+    requires { ⌜ (nextHead + lineWords * n ≤ length (now space)) × (n ≤ writtenMost) × (length (now written) ≡ writtenSpace) ⌝ }
+    ensures { λ r. ⌜ now (space .exit) ≡ paste (now (space .entry)) nextHead (now (written .entry)) (lineWords * n) ⌝ }
 {
-    copy(space, 33, written, 6 * n as usize);
+    copy(
+        space,
+        sizes::NEXT_HEAD,
+        written,
+        sizes::LINE_WORDS * n as usize,
+    );
 }
 
 // The sheet of the lines that the last of n written lines needs.
-fn put_sheet(space: &mut [u16], written: &[u16; 5632], n: u16)
-    requires { ⌜ (33 + 6 * n ≤ length (now space)) × (1 ≤ n) × (n ≤ 938) × Listed (now written) n ⌝ }
+fn put_sheet(space: &mut [u16], written: &[u16; sizes::WRITTEN_SPACE], n: u16)
+    requires { ⌜ (nextHead + lineWords * n ≤ length (now space)) × (1 ≤ n) × (n ≤ writtenMost) × Listed (now written) n ⌝ }
     ensures { λ r. ⌜ ((a : ℕ) (ls : List Entry) → Downward a ls → HoldsLines (now (written .entry)) ls → length ls ≡ n → (short : List Entry) × Shortened a ls short × (now (space .exit) ≡ sheet short ++ drop (length (sheet short)) (now (space .entry)))) ⌝ }
 {
-    let mut lines = [0u16; 5632];
+    let mut lines = [0u16; sizes::WRITTEN_SPACE];
     let count = shorten(written, n, &mut lines);
     put_head(space, count);
     put_lines(space, &lines, count);

@@ -4,12 +4,17 @@ ghost use mathlib.Core.Logic.{_⊎_};
 ghost use mathlib.Core.List.{List, [], _∷_};
 ghost use Prim.Native.Nat.{ℕ, _+_, _-_, _*_, _<_, _≤_};
 ghost use lib.ListN.{length, getD, set};
+ghost use Rattle.comparison.specs.Sizes.{writtenSpace, writtenMost, linePlaces};
 ghost use Rattle.comparison.specs.Lines.{Entry, entry, Downward, HoldsLines, Adds};
 ghost use Rattle.comparison.specs.Needed.{entryOf, renumber, marks, AllStand, Merged, Closed, Copied, Listed, Shortened};
+use crate::sizes;
 use crate::writing::write_next;
 use crate::writing::write_not;
 use crate::writing::write_or;
 use crate::writing::write_signal;
+use truth::header;
+
+const PLACES: u16 = sizes::LINE_PLACES as u16;
 
 // A written line, taken apart.
 pub enum Line {
@@ -20,44 +25,44 @@ pub enum Line {
 }
 
 // A table has a place for each line; past its end stands 0.
-fn get(table: &[u16; 1024], i: u16) -> u16
-    requires { ⌜ length (now table) ≡ 1024 ⌝ }
+fn get(table: &[u16; sizes::LINE_PLACES], i: u16) -> u16
+    requires { ⌜ length (now table) ≡ linePlaces ⌝ }
     ensures { λ r. ⌜ r ≡ getD (now (table .entry)) i 0 ⌝ }
 {
-    if i < 1024 {
+    if i < PLACES {
         return table[i as usize];
     }
     0
 }
 
-fn put(table: &mut [u16; 1024], i: u16, v: u16)
-    requires { ⌜ length (now table) ≡ 1024 ⌝ }
-    ensures { λ r. ⌜ (length (now (table .exit)) ≡ 1024) × (now (table .exit) ≡ set (now (table .entry)) i v) ⌝ }
+fn put(table: &mut [u16; sizes::LINE_PLACES], i: u16, v: u16)
+    requires { ⌜ length (now table) ≡ linePlaces ⌝ }
+    ensures { λ r. ⌜ (length (now (table .exit)) ≡ linePlaces) × (now (table .exit) ≡ set (now (table .entry)) i v) ⌝ }
 {
-    if i < 1024 {
+    if i < PLACES {
         table[i as usize] = v;
     }
 }
 
 // Line i of the written ones.
-fn line_at(words: &[u16; 5632], i: u16) -> Line
-    requires { ⌜ (1 ≤ i) × (i ≤ 938) ⌝ }
+fn line_at(words: &[u16; sizes::WRITTEN_SPACE], i: u16) -> Line
+    requires { ⌜ (1 ≤ i) × (i ≤ writtenMost) ⌝ }
     ensures { λ r. ⌜ ((ls : List Entry) → HoldsLines (now (words .entry)) ls → i ≤ length ls → entry ls i ≡ entryOf r) ⌝ }
 {
-    let k = 6 * (i as usize - 1);
+    let k = sizes::LINE_WORDS * (i as usize - 1);
     let op = words[k];
     let x = words[k + 1];
     let y = words[k + 2];
     match op {
-        0 => Line::Signal(x),
-        1 => Line::Not(x),
-        2 => Line::Or(x, y),
+        header::SIGNAL => Line::Signal(x),
+        header::NEGATION => Line::Not(x),
+        header::EITHER => Line::Or(x, y),
         _ => Line::Next(y),
     }
 }
 
-fn write_line(out: &mut [u16; 5632], n: u16, line: Line)
-    requires { ⌜ (n < 938) × (length (now out) ≡ 5632) ⌝ }
+fn write_line(out: &mut [u16; sizes::WRITTEN_SPACE], n: u16, line: Line)
+    requires { ⌜ (n < writtenMost) × (length (now out) ≡ writtenSpace) ⌝ }
     ensures { λ r. ⌜ Adds (now (out .entry)) (now (out .exit)) n (entryOf line ∷ []) ⌝ }
 {
     match line {
@@ -71,8 +76,8 @@ fn write_line(out: &mut [u16; 5632], n: u16, line: Line)
 // ---- lines made one
 
 // Line i is "not line j": an earlier line that is true exactly where line j is not, or line i, which is then the one for line j.
-fn opposite(other: &mut [u16; 1024], j: u16, i: u16) -> u16
-    requires { ⌜ length (now other) ≡ 1024 ⌝ }
+fn opposite(other: &mut [u16; sizes::LINE_PLACES], j: u16, i: u16) -> u16
+    requires { ⌜ length (now other) ≡ linePlaces ⌝ }
     ensures { λ r. ⌜ ((1 ≤ r) × (r ≡ getD (now (other .entry)) j 0) × (now (other .exit) ≡ now (other .entry))) ⊎ ((r ≡ i) × (now (other .exit) ≡ set (set (now (other .entry)) j i) i j)) ⌝ }
 {
     let before = get(other, j);
@@ -85,8 +90,8 @@ fn opposite(other: &mut [u16; 1024], j: u16, i: u16) -> u16
 }
 
 // Line i is "some next node has line j": an earlier line that says so, or line i, which is then the one for line j.
-fn next_line(nexts: &mut [u16; 1024], j: u16, i: u16) -> u16
-    requires { ⌜ length (now nexts) ≡ 1024 ⌝ }
+fn next_line(nexts: &mut [u16; sizes::LINE_PLACES], j: u16, i: u16) -> u16
+    requires { ⌜ length (now nexts) ≡ linePlaces ⌝ }
     ensures { λ r. ⌜ ((1 ≤ r) × (r ≡ getD (now (nexts .entry)) j 0) × (now (nexts .exit) ≡ now (nexts .entry))) ⊎ ((r ≡ i) × (now (nexts .exit) ≡ set (now (nexts .entry)) j i)) ⌝ }
 {
     let before = get(nexts, j);
@@ -98,8 +103,8 @@ fn next_line(nexts: &mut [u16; 1024], j: u16, i: u16) -> u16
 }
 
 // Line i is "line x or line y": the other one, where one of them is true nowhere, or line i.
-fn either(other: &[u16; 1024], top: u16, x: u16, y: u16, i: u16) -> u16
-    requires { ⌜ length (now other) ≡ 1024 ⌝ }
+fn either(other: &[u16; sizes::LINE_PLACES], top: u16, x: u16, y: u16, i: u16) -> u16
+    requires { ⌜ length (now other) ≡ linePlaces ⌝ }
     ensures { λ r. ⌜ ((x ≡ getD (now (other .entry)) top 0) × (r ≡ y)) ⊎ (((y ≡ getD (now (other .entry)) top 0) × (r ≡ x)) ⊎ (r ≡ i)) ⌝ }
 {
     let nowhere = get(other, top);
@@ -113,8 +118,8 @@ fn either(other: &[u16; 1024], top: u16, x: u16, y: u16, i: u16) -> u16
 }
 
 // Line i is "line x or line y", which is true everywhere if y is true exactly where x is not.
-fn top_after(other: &[u16; 1024], top: u16, x: u16, y: u16, i: u16) -> u16
-    requires { ⌜ length (now other) ≡ 1024 ⌝ }
+fn top_after(other: &[u16; sizes::LINE_PLACES], top: u16, x: u16, y: u16, i: u16) -> u16
+    requires { ⌜ length (now other) ≡ linePlaces ⌝ }
     ensures { λ r. ⌜ ((getD (now (other .entry)) x 0 ≡ y) × (r ≡ i)) ⊎ (r ≡ top) ⌝ }
 {
     if get(other, x) == y {
@@ -127,13 +132,13 @@ fn top_after(other: &[u16; 1024], top: u16, x: u16, y: u16, i: u16) -> u16
 fn merge_line(
     line: Line,
     i: u16,
-    same: &mut [u16; 1024],
-    other: &mut [u16; 1024],
-    nexts: &mut [u16; 1024],
+    same: &mut [u16; sizes::LINE_PLACES],
+    other: &mut [u16; sizes::LINE_PLACES],
+    nexts: &mut [u16; sizes::LINE_PLACES],
     top: u16,
 ) -> u16
-    requires { ⌜ (1 ≤ i) × (i ≤ 938) × (length (now same) ≡ 1024) × (length (now other) ≡ 1024) × (length (now nexts) ≡ 1024) ⌝ }
-    ensures { λ r. ⌜ (length (now (same .exit)) ≡ 1024) × (length (now (other .exit)) ≡ 1024) × (length (now (nexts .exit)) ≡ 1024) × ((a : ℕ) (ls : List Entry) → Downward a ls → i ≤ length ls → entry ls i ≡ entryOf line → Merged ls (i - 1) (now (same .entry)) (now (other .entry)) (now (nexts .entry)) top → Merged ls i (now (same .exit)) (now (other .exit)) (now (nexts .exit)) r) ⌝ }
+    requires { ⌜ (1 ≤ i) × (i ≤ writtenMost) × (length (now same) ≡ linePlaces) × (length (now other) ≡ linePlaces) × (length (now nexts) ≡ linePlaces) ⌝ }
+    ensures { λ r. ⌜ (length (now (same .exit)) ≡ linePlaces) × (length (now (other .exit)) ≡ linePlaces) × (length (now (nexts .exit)) ≡ linePlaces) × ((a : ℕ) (ls : List Entry) → Downward a ls → i ≤ length ls → entry ls i ≡ entryOf line → Merged ls (i - 1) (now (same .entry)) (now (other .entry)) (now (nexts .entry)) top → Merged ls i (now (same .exit)) (now (other .exit)) (now (nexts .exit)) r) ⌝ }
 {
     match line {
         Line::Signal(_) => {
@@ -163,12 +168,12 @@ fn merge_line(
 }
 
 // For each of n lines, the line that stands for it.
-fn merge(words: &[u16; 5632], n: u16, same: &mut [u16; 1024])
-    requires { ⌜ (n ≤ 938) × (length (now same) ≡ 1024) ⌝ }
-    ensures { λ r. ⌜ (length (now (same .exit)) ≡ 1024) × ((a : ℕ) (ls : List Entry) → Downward a ls → HoldsLines (now (words .entry)) ls → n ≤ length ls → AllStand ls n (now (same .exit))) ⌝ }
+fn merge(words: &[u16; sizes::WRITTEN_SPACE], n: u16, same: &mut [u16; sizes::LINE_PLACES])
+    requires { ⌜ (n ≤ writtenMost) × (length (now same) ≡ linePlaces) ⌝ }
+    ensures { λ r. ⌜ (length (now (same .exit)) ≡ linePlaces) × ((a : ℕ) (ls : List Entry) → Downward a ls → HoldsLines (now (words .entry)) ls → n ≤ length ls → AllStand ls n (now (same .exit))) ⌝ }
 {
-    let mut other = [0u16; 1024];
-    let mut nexts = [0u16; 1024];
+    let mut other = [0u16; sizes::LINE_PLACES];
+    let mut nexts = [0u16; sizes::LINE_PLACES];
     let mut top: u16 = 0;
     let mut i: u16 = 0;
     while i < n {
@@ -180,8 +185,8 @@ fn merge(words: &[u16; 5632], n: u16, same: &mut [u16; 1024])
 // ---- needed lines
 
 // The lines that a needed line refers to are needed.
-fn mark_line(line: Line, same: &[u16; 1024], needed: &mut [u16; 1024])
-    requires { ⌜ (length (now same) ≡ 1024) × (length (now needed) ≡ 1024) ⌝ }
+fn mark_line(line: Line, same: &[u16; sizes::LINE_PLACES], needed: &mut [u16; sizes::LINE_PLACES])
+    requires { ⌜ (length (now same) ≡ linePlaces) × (length (now needed) ≡ linePlaces) ⌝ }
     ensures { λ r. ⌜ now (needed .exit) ≡ marks (λ j. getD (now (same .entry)) j 0) (entryOf line) (now (needed .entry)) ⌝ }
 {
     match line {
@@ -196,9 +201,14 @@ fn mark_line(line: Line, same: &[u16; 1024], needed: &mut [u16; 1024])
 }
 
 // The lines that line j needs, from line j up.
-fn mark(words: &[u16; 5632], j: u16, same: &[u16; 1024], needed: &mut [u16; 1024])
-    requires { ⌜ (1 ≤ j) × (j ≤ 938) × (length (now same) ≡ 1024) × (length (now needed) ≡ 1024) × ((k : ℕ) → getD (now needed) k 0 ≡ 0) ⌝ }
-    ensures { λ r. ⌜ (length (now (needed .exit)) ≡ 1024) × ((a : ℕ) (ls : List Entry) → Downward a ls → HoldsLines (now (words .entry)) ls → j ≤ length ls → AllStand ls (length ls) (now (same .entry)) → Closed ls (now (same .entry)) 0 j (now (needed .exit))) ⌝ }
+fn mark(
+    words: &[u16; sizes::WRITTEN_SPACE],
+    j: u16,
+    same: &[u16; sizes::LINE_PLACES],
+    needed: &mut [u16; sizes::LINE_PLACES],
+)
+    requires { ⌜ (1 ≤ j) × (j ≤ writtenMost) × (length (now same) ≡ linePlaces) × (length (now needed) ≡ linePlaces) × ((k : ℕ) → getD (now needed) k 0 ≡ 0) ⌝ }
+    ensures { λ r. ⌜ (length (now (needed .exit)) ≡ linePlaces) × ((a : ℕ) (ls : List Entry) → Downward a ls → HoldsLines (now (words .entry)) ls → j ≤ length ls → AllStand ls (length ls) (now (same .entry)) → Closed ls (now (same .entry)) 0 j (now (needed .exit))) ⌝ }
 {
     put(needed, j, 1);
     let mut i = j;
@@ -212,8 +222,12 @@ fn mark(words: &[u16; 5632], j: u16, same: &[u16; 1024], needed: &mut [u16; 1024
 }
 
 // The line with its references renumbered.
-fn renumbered(line: Line, same: &[u16; 1024], number: &[u16; 1024]) -> Line
-    requires { ⌜ (length (now same) ≡ 1024) × (length (now number) ≡ 1024) ⌝ }
+fn renumbered(
+    line: Line,
+    same: &[u16; sizes::LINE_PLACES],
+    number: &[u16; sizes::LINE_PLACES],
+) -> Line
+    requires { ⌜ (length (now same) ≡ linePlaces) × (length (now number) ≡ linePlaces) ⌝ }
     ensures { λ r. ⌜ entryOf r ≡ renumber (λ j. getD (now (number .entry)) (getD (now (same .entry)) j 0) 0) (entryOf line) ⌝ }
 {
     match line {
@@ -226,16 +240,16 @@ fn renumbered(line: Line, same: &[u16; 1024], number: &[u16; 1024]) -> Line
 
 // The needed lines of lines 1 to j, one below the other, and how many they are.
 fn copy_needed<'a>(
-    words: &[u16; 5632],
+    words: &[u16; sizes::WRITTEN_SPACE],
     j: u16,
-    same: &'a [u16; 1024],
-    needed: &'a [u16; 1024],
-    out: &mut [u16; 5632],
+    same: &'a [u16; sizes::LINE_PLACES],
+    needed: &'a [u16; sizes::LINE_PLACES],
+    out: &mut [u16; sizes::WRITTEN_SPACE],
 ) -> u16
-    requires { ⌜ (j ≤ 938) × (length (now same) ≡ 1024) × (length (now needed) ≡ 1024) × (length (now out) ≡ 5632) ⌝ }
-    ensures { λ r. ⌜ (r ≤ j) × (length (now (out .exit)) ≡ 5632) × ((a : ℕ) (ls : List Entry) → Downward a ls → HoldsLines (now (words .entry)) ls → j ≤ length ls → AllStand ls (length ls) (now (same .entry)) → Closed ls (now (same .entry)) 0 j (now (needed .entry)) → (number : List ℕ) × Copied a ls (now (same .entry)) (now (needed .entry)) j number (now (out .exit)) r) ⌝ }
+    requires { ⌜ (j ≤ writtenMost) × (length (now same) ≡ linePlaces) × (length (now needed) ≡ linePlaces) × (length (now out) ≡ writtenSpace) ⌝ }
+    ensures { λ r. ⌜ (r ≤ j) × (length (now (out .exit)) ≡ writtenSpace) × ((a : ℕ) (ls : List Entry) → Downward a ls → HoldsLines (now (words .entry)) ls → j ≤ length ls → AllStand ls (length ls) (now (same .entry)) → Closed ls (now (same .entry)) 0 j (now (needed .entry)) → (number : List ℕ) × Copied a ls (now (same .entry)) (now (needed .entry)) j number (now (out .exit)) r) ⌝ }
 {
-    let mut number = [0u16; 1024];
+    let mut number = [0u16; sizes::LINE_PLACES];
     let mut count: u16 = 0;
     let mut i: u16 = 0;
     while i < j {
@@ -251,12 +265,16 @@ fn copy_needed<'a>(
 }
 
 // Of n written lines, those that the last one needs, one below the other, and how many they are.
-pub fn shorten(words: &[u16; 5632], n: u16, out: &mut [u16; 5632]) -> u16
-    requires { ⌜ (1 ≤ n) × (n ≤ 938) × Listed (now words) n × (length (now out) ≡ 5632) ⌝ }
-    ensures { λ r. ⌜ (r ≤ n) × (length (now (out .exit)) ≡ 5632) × ((a : ℕ) (ls : List Entry) → Downward a ls → HoldsLines (now (words .entry)) ls → length ls ≡ n → (short : List Entry) × Shortened a ls short × HoldsLines (now (out .exit)) short × (length short ≡ r)) ⌝ }
+pub fn shorten(
+    words: &[u16; sizes::WRITTEN_SPACE],
+    n: u16,
+    out: &mut [u16; sizes::WRITTEN_SPACE],
+) -> u16
+    requires { ⌜ (1 ≤ n) × (n ≤ writtenMost) × Listed (now words) n × (length (now out) ≡ writtenSpace) ⌝ }
+    ensures { λ r. ⌜ (r ≤ n) × (length (now (out .exit)) ≡ writtenSpace) × ((a : ℕ) (ls : List Entry) → Downward a ls → HoldsLines (now (words .entry)) ls → length ls ≡ n → (short : List Entry) × Shortened a ls short × HoldsLines (now (out .exit)) short × (length short ≡ r)) ⌝ }
 {
-    let mut same = [0u16; 1024];
-    let mut needed = [0u16; 1024];
+    let mut same = [0u16; sizes::LINE_PLACES];
+    let mut needed = [0u16; sizes::LINE_PLACES];
     merge(words, n, &mut same);
     let last = get(&same, n);
     mark(words, last, &same, &mut needed);

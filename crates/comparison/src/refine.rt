@@ -6,6 +6,7 @@ ghost use lib.ListN.{length};
 ghost use Rattle.truth.specs.Passed as Passed;
 ghost use Rattle.truth.specs.Rows.{rowHas, rowsHas, leadsInto};
 ghost use Rattle.truth.specs.Targets.{TailOf};
+ghost use Rattle.comparison.specs.Sizes.{writtenSpace, blockPlaces, blockWords, nodePlaces};
 ghost use Rattle.comparison.specs.Bounded.{Bounded};
 ghost use Rattle.comparison.specs.Tables.{state, written, Room, SplitBlock};
 ghost use Rattle.comparison.specs.Stages.{Staged, NextSplit, Starts, Divisible, Divided, Signalled, Settled, Partitioned};
@@ -17,6 +18,7 @@ use crate::signatures::leading;
 use crate::signatures::mark_row;
 use crate::signatures::marks;
 use crate::signatures::splitter;
+use crate::sizes;
 use crate::writing::write_first_lines;
 use crate::writing::write_next;
 use truth::header;
@@ -29,17 +31,24 @@ use truth::tables::store;
 // A refinement: row c of `first` and of `second` has the nodes of block c of each machine, `line` at c the line that is true there and
 // nowhere else, `words` the words of the lines.
 pub struct Partition {
-    pub first: [u64; 512],
-    pub second: [u64; 512],
-    pub line: [u16; 256],
-    pub words: [u16; 5632],
+    pub first: [u64; sizes::BLOCK_WORDS],
+    pub second: [u64; sizes::BLOCK_WORDS],
+    pub line: [u16; sizes::BLOCK_PLACES],
+    pub words: [u16; sizes::WRITTEN_SPACE],
     pub count: u16,
     pub lines: u16,
 }
 
 // The first block from b to n - 1 that the sets split, or n.
-fn next_split(first: &[u64; 512], second: &[u64; 512], b: u16, n: u16, x1: Row, x2: Row) -> u16
-    requires { ⌜ (b ≤ n) × (n ≤ 256) ⌝ }
+fn next_split(
+    first: &[u64; sizes::BLOCK_WORDS],
+    second: &[u64; sizes::BLOCK_WORDS],
+    b: u16,
+    n: u16,
+    x1: Row,
+    x2: Row,
+) -> u16
+    requires { ⌜ (b ≤ n) × (n ≤ blockPlaces) ⌝ }
     ensures { λ r. ⌜ ((M₁ M₂ : List ℕ) → NextSplit M₁ M₂ (rowsHas (now (first .entry))) (rowsHas (now (second .entry))) b n (rowHas x1) (rowHas x2) r) ⌝ }
 {
     let mut c = b;
@@ -54,10 +63,10 @@ fn next_split(first: &[u64; 512], second: &[u64; 512], b: u16, n: u16, x1: Row, 
 
 // Splits every block by the sets, where line p is true, from block c on, the first that they split. The parts are not looked at again.
 fn divide(
-    first: &mut [u64; 512],
-    second: &mut [u64; 512],
-    line: &mut [u16; 256],
-    words: &mut [u16; 5632],
+    first: &mut [u64; sizes::BLOCK_WORDS],
+    second: &mut [u64; sizes::BLOCK_WORDS],
+    line: &mut [u16; sizes::BLOCK_PLACES],
+    words: &mut [u16; sizes::WRITTEN_SPACE],
     stand: Stand,
     c: u16,
     p: u16,
@@ -88,10 +97,10 @@ fn divide(
 fn by_signal(
     m1: &[u16],
     m2: &[u16],
-    first: &mut [u64; 512],
-    second: &mut [u64; 512],
-    line: &mut [u16; 256],
-    words: &mut [u16; 5632],
+    first: &mut [u64; sizes::BLOCK_WORDS],
+    second: &mut [u64; sizes::BLOCK_WORDS],
+    line: &mut [u16; sizes::BLOCK_PLACES],
+    words: &mut [u16; sizes::WRITTEN_SPACE],
     stand: Stand,
     i: u16,
 ) -> Stand
@@ -113,10 +122,10 @@ fn by_signal(
 fn by_signals(
     m1: &[u16],
     m2: &[u16],
-    first: &mut [u64; 512],
-    second: &mut [u64; 512],
-    line: &mut [u16; 256],
-    words: &mut [u16; 5632],
+    first: &mut [u64; sizes::BLOCK_WORDS],
+    second: &mut [u64; sizes::BLOCK_WORDS],
+    line: &mut [u16; sizes::BLOCK_PLACES],
+    words: &mut [u16; sizes::WRITTEN_SPACE],
     stand: Stand,
 ) -> Stand
     requires { ⌜ Staged (now m1) (now m2) 5 (state (now first) (now second) (now line) (now words) stand) ⌝ }
@@ -136,17 +145,17 @@ fn by_signals(
 fn by_next(
     m1: &[u16],
     m2: &[u16],
-    first: &mut [u64; 512],
-    second: &mut [u64; 512],
-    line: &mut [u16; 256],
-    words: &mut [u16; 5632],
+    first: &mut [u64; sizes::BLOCK_WORDS],
+    second: &mut [u64; sizes::BLOCK_WORDS],
+    line: &mut [u16; sizes::BLOCK_PLACES],
+    words: &mut [u16; sizes::WRITTEN_SPACE],
     stand: Stand,
     c: u16,
     d: u16,
     tail1: Tail,
     tail2: Tail,
 ) -> Stand
-    requires { ⌜ (d < 256) × Room (written (state (now first) (now second) (now line) (now words) stand) (now words)) c × TailOf (now m1) tail1 × TailOf (now m2) tail2 ⌝ }
+    requires { ⌜ (d < blockPlaces) × Room (written (state (now first) (now second) (now line) (now words) stand) (now words)) c × TailOf (now m1) tail1 × TailOf (now m2) tail2 ⌝ }
     ensures { λ r. ⌜
         SplitBlock
         (written (state (now (first .entry)) (now (second .entry)) (now (line .entry)) (now (words .entry)) stand) (now (words .entry)))
@@ -172,13 +181,13 @@ fn by_next(
 
 // The marks of the nodes of block c, which is new.
 fn mark_block(
-    mark1: &mut [u16; 256],
-    mark2: &mut [u16; 256],
-    first: &[u64; 512],
-    second: &[u64; 512],
+    mark1: &mut [u16; sizes::NODE_PLACES],
+    mark2: &mut [u16; sizes::NODE_PLACES],
+    first: &[u64; sizes::BLOCK_WORDS],
+    second: &[u64; sizes::BLOCK_WORDS],
     c: u16,
 )
-    requires { ⌜ (c < 256) × (length (now mark1) ≡ 256) × (length (now mark2) ≡ 256) ⌝ }
+    requires { ⌜ (c < blockPlaces) × (length (now mark1) ≡ nodePlaces) × (length (now mark2) ≡ nodePlaces) ⌝ }
     ensures { λ r. ⌜
         MarkedRow (rowsHas (now (first .entry)) c) (c + 1) (now (mark1 .entry)) (now (mark1 .exit))
         × MarkedRow (rowsHas (now (second .entry)) c) (c + 1) (now (mark2 .entry)) (now (mark2 .exit))
@@ -192,10 +201,10 @@ fn mark_block(
 fn turn(
     m1: &[u16],
     m2: &[u16],
-    first: &mut [u64; 512],
-    second: &mut [u64; 512],
-    line: &mut [u16; 256],
-    words: &mut [u16; 5632],
+    first: &mut [u64; sizes::BLOCK_WORDS],
+    second: &mut [u64; sizes::BLOCK_WORDS],
+    line: &mut [u16; sizes::BLOCK_PLACES],
+    words: &mut [u16; sizes::WRITTEN_SPACE],
     stand: Stand,
     tail1: Tail,
     tail2: Tail,
@@ -244,10 +253,10 @@ fn turn(
 fn by_nexts(
     m1: &[u16],
     m2: &[u16],
-    first: &mut [u64; 512],
-    second: &mut [u64; 512],
-    line: &mut [u16; 256],
-    words: &mut [u16; 5632],
+    first: &mut [u64; sizes::BLOCK_WORDS],
+    second: &mut [u64; sizes::BLOCK_WORDS],
+    line: &mut [u16; sizes::BLOCK_PLACES],
+    words: &mut [u16; sizes::WRITTEN_SPACE],
     stand: Stand,
     tail1: Tail,
     tail2: Tail,
@@ -269,14 +278,14 @@ fn by_nexts(
 fn begin(
     m1: &[u16],
     m2: &[u16],
-    first: &mut [u64; 512],
-    second: &mut [u64; 512],
-    line: &mut [u16; 256],
-    words: &mut [u16; 5632],
+    first: &mut [u64; sizes::BLOCK_WORDS],
+    second: &mut [u64; sizes::BLOCK_WORDS],
+    line: &mut [u16; sizes::BLOCK_PLACES],
+    words: &mut [u16; sizes::WRITTEN_SPACE],
 ) -> Stand
     requires { ⌜
         (Passed.machineRefusal (now m1) ≡ 0) × (Passed.machineRefusal (now m2) ≡ 0) × Bounded (now m1) (now m2)
-        × (length (now first) ≡ 512) × (length (now second) ≡ 512) × (length (now line) ≡ 256) × (length (now words) ≡ 5632)
+        × (length (now first) ≡ blockWords) × (length (now second) ≡ blockWords) × (length (now line) ≡ blockPlaces) × (length (now words) ≡ writtenSpace)
         ⌝ }
     ensures { λ r. ⌜ Staged (now (m1 .entry)) (now (m2 .entry)) 5 (state (now (first .exit)) (now (second .exit)) (now (line .exit)) (now (words .exit)) r) ⌝ }
 {
@@ -297,10 +306,10 @@ pub fn refine(m1: &[u16], m2: &[u16]) -> Partition
     requires { ⌜ (Passed.machineRefusal (now m1) ≡ 0) × (Passed.machineRefusal (now m2) ≡ 0) × Bounded (now m1) (now m2) ⌝ }
     ensures { λ r. ⌜ Partitioned (now (m1 .entry)) (now (m2 .entry)) r ⌝ }
 {
-    let mut first = [0u64; 512];
-    let mut second = [0u64; 512];
-    let mut line = [0u16; 256];
-    let mut words = [0u16; 5632];
+    let mut first = [0u64; sizes::BLOCK_WORDS];
+    let mut second = [0u64; sizes::BLOCK_WORDS];
+    let mut line = [0u16; sizes::BLOCK_PLACES];
+    let mut words = [0u16; sizes::WRITTEN_SPACE];
     let begun = begin(m1, m2, &mut first, &mut second, &mut line, &mut words);
     let signalled = by_signals(
         m1,

@@ -5,8 +5,10 @@ ghost use Prim.Native.Nat.{ℕ, _≤_};
 ghost use lib.ListN.{length};
 ghost use Rattle.truth.specs.Rows.{rowHas, rowsHas, leadsInto};
 ghost use Rattle.truth.specs.Targets.{TailOf};
+ghost use Rattle.comparison.specs.Sizes.{blockPlaces, nodePlaces};
 ghost use Rattle.comparison.specs.Signatures.{MarkedRow, BlockMarks, MarksIn, TellsApart, TellsUnlike, TellsOne, Alone, Led, TellsMark};
 ghost use Rattle.comparison.specs.Blocks.{Members};
+use crate::sizes;
 use truth::rows::Row;
 use truth::structure;
 use truth::structure::Tail;
@@ -20,8 +22,8 @@ pub struct Lead {
 }
 
 // Each node of the row gets the mark e.
-pub fn mark_row(mark: &mut [u16; 256], row: Row, e: u16)
-    requires { ⌜ length (now mark) ≡ 256 ⌝ }
+pub fn mark_row(mark: &mut [u16; sizes::NODE_PLACES], row: Row, e: u16)
+    requires { ⌜ length (now mark) ≡ nodePlaces ⌝ }
     ensures { λ r. ⌜ MarkedRow (rowHas row) e (now (mark .entry)) (now (mark .exit)) ⌝ }
 {
     let mut left = row;
@@ -36,11 +38,11 @@ pub fn mark_row(mark: &mut [u16; 256], row: Row, e: u16)
 }
 
 // The marks of the nodes of rows 0 to n - 1, where the mark of row c is c + 1.
-pub fn marks(rows: &[u64; 512], n: u16) -> [u16; 256]
-    requires { ⌜ n ≤ 256 ⌝ }
+pub fn marks(rows: &[u64; sizes::BLOCK_WORDS], n: u16) -> [u16; sizes::NODE_PLACES]
+    requires { ⌜ n ≤ blockPlaces ⌝ }
     ensures { λ r. ⌜ BlockMarks (rowsHas (now (rows .entry))) n r ⌝ }
 {
-    let mut mark = [0u16; 256];
+    let mut mark = [0u16; sizes::NODE_PLACES];
     let mut c: u16 = 0;
     while c < n {
         let row = load(rows, c as usize);
@@ -77,7 +79,14 @@ fn apart(a: Row, b: Row) -> u16
 }
 
 // A mark in which the signature of a node of the row differs from l, or 0.
-fn unlike(m: &[u16], mark: &[u16; 256], all: Row, row: Row, l: Row, tail: Tail) -> u16
+fn unlike(
+    m: &[u16],
+    mark: &[u16; sizes::NODE_PLACES],
+    all: Row,
+    row: Row,
+    l: Row,
+    tail: Tail,
+) -> u16
     requires { ⌜ MarksIn (now m) (now mark) (rowHas row) (rowHas all) × TailOf (now m) tail ⌝ }
     ensures { λ r. ⌜ TellsUnlike (now (m .entry)) (now (mark .entry)) (rowHas row) (rowHas l) r ⌝ }
 {
@@ -122,8 +131,8 @@ fn alone(row1: Row, row2: Row) -> bool
 fn led_by(
     m1: &[u16],
     m2: &[u16],
-    mark1: &[u16; 256],
-    mark2: &[u16; 256],
+    mark1: &[u16; sizes::NODE_PLACES],
+    mark2: &[u16; sizes::NODE_PLACES],
     all: Row,
     row1: Row,
     row2: Row,
@@ -160,8 +169,8 @@ fn led_by(
 pub fn splitter(
     m1: &[u16],
     m2: &[u16],
-    mark1: &[u16; 256],
-    mark2: &[u16; 256],
+    mark1: &[u16; sizes::NODE_PLACES],
+    mark2: &[u16; sizes::NODE_PLACES],
     all: Row,
     row1: Row,
     row2: Row,

@@ -1,16 +1,20 @@
-// Writing lines: the words of each line, six a line, into a space for 938 lines.
+// Writing lines: the words of each line, one record after another, into the space for them.
 ghost use mathlib.Core.Path.{_≡_};
 ghost use mathlib.Core.List.{[], _∷_, _++_};
 ghost use Prim.Native.Nat.{_+_, _*_, _<_, _≤_};
 ghost use lib.ListN.{length, take};
+ghost use Rattle.truth.specs.Passed.{lineWords};
+ghost use Rattle.comparison.specs.Sizes.{writtenSpace, writtenMost};
 ghost use Rattle.comparison.specs.Lines.{sig, neg, alt, next, signalLines, firstLines, split, HoldsLines, Adds};
+use crate::sizes;
+use truth::header;
 
 // The words of line n + 1, of which the last three are always 0.
-fn write_words(out: &mut [u16; 5632], n: u16, op: u16, x: u16, y: u16)
-    requires { ⌜ (n < 938) × (length (now out) ≡ 5632) ⌝ }
-    ensures { λ r. ⌜ (length (now (out .exit)) ≡ 5632) × (take (6 * n + 6) (now (out .exit)) ≡ take (6 * n) (now (out .entry)) ++ op ∷ x ∷ y ∷ 0 ∷ 0 ∷ 0 ∷ []) ⌝ }
+fn write_words(out: &mut [u16; sizes::WRITTEN_SPACE], n: u16, op: u16, x: u16, y: u16)
+    requires { ⌜ (n < writtenMost) × (length (now out) ≡ writtenSpace) ⌝ }
+    ensures { λ r. ⌜ (length (now (out .exit)) ≡ writtenSpace) × (take (lineWords * n + lineWords) (now (out .exit)) ≡ take (lineWords * n) (now (out .entry)) ++ op ∷ x ∷ y ∷ 0 ∷ 0 ∷ 0 ∷ []) ⌝ }
 {
-    let k = 6 * (n as usize);
+    let k = sizes::LINE_WORDS * (n as usize);
     out[k] = op;
     out[k + 1] = x;
     out[k + 2] = y;
@@ -20,40 +24,40 @@ fn write_words(out: &mut [u16; 5632], n: u16, op: u16, x: u16, y: u16)
 }
 
 // Signal i.
-pub fn write_signal(out: &mut [u16; 5632], n: u16, i: u16)
-    requires { ⌜ (n < 938) × (length (now out) ≡ 5632) ⌝ }
+pub fn write_signal(out: &mut [u16; sizes::WRITTEN_SPACE], n: u16, i: u16)
+    requires { ⌜ (n < writtenMost) × (length (now out) ≡ writtenSpace) ⌝ }
     ensures { λ r. ⌜ Adds (now (out .entry)) (now (out .exit)) n (sig i ∷ []) ⌝ }
 {
-    write_words(out, n, 0, i, 0)
+    write_words(out, n, header::SIGNAL, i, 0)
 }
 
 // Not line j.
-pub fn write_not(out: &mut [u16; 5632], n: u16, j: u16)
-    requires { ⌜ (n < 938) × (length (now out) ≡ 5632) ⌝ }
+pub fn write_not(out: &mut [u16; sizes::WRITTEN_SPACE], n: u16, j: u16)
+    requires { ⌜ (n < writtenMost) × (length (now out) ≡ writtenSpace) ⌝ }
     ensures { λ r. ⌜ Adds (now (out .entry)) (now (out .exit)) n (neg j ∷ []) ⌝ }
 {
-    write_words(out, n, 1, j, 0)
+    write_words(out, n, header::NEGATION, j, 0)
 }
 
 // Line i or line j.
-pub fn write_or(out: &mut [u16; 5632], n: u16, i: u16, j: u16)
-    requires { ⌜ (n < 938) × (length (now out) ≡ 5632) ⌝ }
+pub fn write_or(out: &mut [u16; sizes::WRITTEN_SPACE], n: u16, i: u16, j: u16)
+    requires { ⌜ (n < writtenMost) × (length (now out) ≡ writtenSpace) ⌝ }
     ensures { λ r. ⌜ Adds (now (out .entry)) (now (out .exit)) n (alt i j ∷ []) ⌝ }
 {
-    write_words(out, n, 2, i, j)
+    write_words(out, n, header::EITHER, i, j)
 }
 
 // Some next node has line j.
-pub fn write_next(out: &mut [u16; 5632], n: u16, j: u16)
-    requires { ⌜ (n < 938) × (length (now out) ≡ 5632) ⌝ }
+pub fn write_next(out: &mut [u16; sizes::WRITTEN_SPACE], n: u16, j: u16)
+    requires { ⌜ (n < writtenMost) × (length (now out) ≡ writtenSpace) ⌝ }
     ensures { λ r. ⌜ Adds (now (out .entry)) (now (out .exit)) n (next j ∷ []) ⌝ }
 {
-    write_words(out, n, 3, 1, j)
+    write_words(out, n, header::SOME_PATH, 1, j)
 }
 
 // Lines 1 to a: the signals.
-fn write_signals(out: &mut [u16; 5632], a: u16)
-    requires { ⌜ (a < 938) × (length (now out) ≡ 5632) ⌝ }
+fn write_signals(out: &mut [u16; sizes::WRITTEN_SPACE], a: u16)
+    requires { ⌜ (a < writtenMost) × (length (now out) ≡ writtenSpace) ⌝ }
     ensures { λ r. ⌜ HoldsLines (now (out .exit)) (signalLines a) ⌝ }
 {
     let mut i: u16 = 0;
@@ -64,8 +68,8 @@ fn write_signals(out: &mut [u16; 5632], a: u16)
 }
 
 // The signals, and then signal 1 or not signal 1.
-pub fn write_first_lines(out: &mut [u16; 5632], a: u16)
-    requires { ⌜ (a < 900) × (length (now out) ≡ 5632) ⌝ }
+pub fn write_first_lines(out: &mut [u16; sizes::WRITTEN_SPACE], a: u16)
+    requires { ⌜ (a + 2 ≤ writtenMost) × (length (now out) ≡ writtenSpace) ⌝ }
     ensures { λ r. ⌜ HoldsLines (now (out .exit)) (firstLines a) ⌝ }
 {
     write_signals(out, a);
@@ -74,8 +78,8 @@ pub fn write_first_lines(out: &mut [u16; 5632], a: u16)
 }
 
 // The lines of a split of line b by line p.
-pub fn write_split(out: &mut [u16; 5632], n: u16, b: u16, p: u16)
-    requires { ⌜ (n + 6 ≤ 938) × (length (now out) ≡ 5632) ⌝ }
+pub fn write_split(out: &mut [u16; sizes::WRITTEN_SPACE], n: u16, b: u16, p: u16)
+    requires { ⌜ (n + 6 ≤ writtenMost) × (length (now out) ≡ writtenSpace) ⌝ }
     ensures { λ r. ⌜ Adds (now (out .entry)) (now (out .exit)) n (split n b p) ⌝ }
 {
     write_not(out, n, b);

@@ -1,17 +1,17 @@
 -- Pages: what is put behind a cursor leaves what stands before it, and lines stay narrow and few.
-use mathlib.Core.Path.{_≡_, refl, sym, ap, ap₂, subst, _∙_}
+use mathlib.Core.Path.{_≡_, refl, sym, ap₂, _∙_}
 use Prim.Native.Nat.{ℕ, zero, suc, _+_, _≤_, _<_}
 use native.Mathlib.Omega.{arith}
 use native.Mathlib.Numerals.{add-one}
 use native.Mathlib.Decide.{decLe}
 use mathlib.Core.Logic.{by-cases}
 use mathlib.Core.List.{List}
-use mathlib.Core.Bool.{Bool, true, false, cond}
+use mathlib.Core.Bool.{cond}
 use lib.Dec.{eqb}
 use borrow.Author.Tests.{ne-eqb, eq-eqb}
 use lib.ListN.{length, getD, set, length-set}
 use lib.Seq.{getD-set-same, getD-set-other}
-use Rattle.explain.specs.Pages.{column, ended, Narrow, Laid, Follows}
+use Rattle.explain.specs.Pages.{pageSize, pageWidth, pageHeight, column, ended, Narrow, Laid, Follows}
 use Rattle.explain.specs.declared.page.Cursor.{Cursor}
 
 -- ---- the same bytes
@@ -83,7 +83,7 @@ follows-back {p} {q} {c} x = record {
 
 -- ---- one byte
 
-module _ (page : List ℕ) (c d : Cursor) (byte : ℕ) (room : c .at < 4096) (at : d .at ≡ c .at + 1) where
+module _ (page : List ℕ) (c d : Cursor) (byte : ℕ) (room : c .at < pageSize) (at : d .at ≡ c .at + 1) where
   abbrev more : List ℕ
   more = set page (c .at) byte
 
@@ -109,7 +109,7 @@ module _ (page : List ℕ) (c d : Cursor) (byte : ℕ) (room : c .at < 4096) (at
     unfolding ended
     ended-next = rw (at, add-one, byte-there, ended-there)
 
-    laid-more : cond (eqb byte 10) 0 (suc (c .column)) ≡ d .column → cond (eqb byte 10) (suc (c .lines)) (c .lines) ≡ d .lines → d .column ≤ 100 → d .lines ≤ 40
+    laid-more : cond (eqb byte 10) 0 (suc (c .column)) ≡ d .column → cond (eqb byte 10) (suc (c .lines)) (c .lines) ≡ d .lines → d .column ≤ pageWidth → d .lines ≤ pageHeight
         → Laid more d
     laid-more col lines narrow few =
         let z = x .size in
@@ -133,7 +133,7 @@ module _ (page : List ℕ) (c d : Cursor) (byte : ℕ) (room : c .at < 4096) (at
   follows-more f = record { size = length-set page (c .at) byte; forth = omega arith; kept = kept-below; laid = f }
 
   -- a byte that ends no line
-  pub follows-byte : (byte ≡ 10 → ⊥) → c .column < 100 → d .column ≡ c .column + 1 → d .lines ≡ c .lines → Follows page c more d
+  pub follows-byte : (byte ≡ 10 → ⊥) → c .column < pageWidth → d .column ≡ c .column + 1 → d .lines ≡ c .lines → Follows page c more d
   follows-byte other narrow col lines =
       let e = ne-eqb byte 10 other in
       follows-more λ x.
@@ -142,7 +142,7 @@ module _ (page : List ℕ) (c d : Cursor) (byte : ℕ) (room : c .at < 4096) (at
       laid-more x (rw (e, col) (sym (add-one (c .column)))) (rw (e, lines) refl) (omega arith) (omega arith)
 
   -- a line end
-  pub follows-end : byte ≡ 10 → c .lines < 40 → d .column ≡ 0 → d .lines ≡ c .lines + 1 → Follows page c more d
+  pub follows-end : byte ≡ 10 → c .lines < pageHeight → d .column ≡ 0 → d .lines ≡ c .lines + 1 → Follows page c more d
   follows-end ends few col lines =
       let e = eq-eqb byte 10 ends in
       follows-more λ x. laid-more x (rw (e, col) refl) (rw (e, lines) (sym (add-one (c .lines)))) (omega arith) (omega arith)
@@ -157,7 +157,7 @@ narrow-none page = record {
 }
 
 -- the cursor of an empty page
-pub laid-none : (page : List ℕ) (c : Cursor) → length page ≡ 4096 → c .at ≡ 0 → c .column ≡ 0 → c .lines ≡ 0 → Laid page c
+pub laid-none : (page : List ℕ) (c : Cursor) → length page ≡ pageSize → c .at ≡ 0 → c .column ≡ 0 → c .lines ≡ 0 → Laid page c
 unfolding column ended
 laid-none page c size at col lines = record {
   size = size;

@@ -6,11 +6,13 @@ use mathlib.Core.List.{List, _∷_}
 use lib.ListN.{length, getD, take, drop, length-append, List·getD-append}
 use lib.Seq.{take-at, getD-take}
 use lib.Dec.{eqb→eq}
+use Rattle.sheets.specs.Format.{linesMost, lineWords, nextHead}
 use Rattle.sheets.specs.Words.{word}
 use Rattle.sheets.specs.Questions.{Refusal, none as noRefusal, firstNo}
 use Rattle.sheets.specs.Rules.{lent, automata, states, transitions, lines, q8}
 use Rattle.sheets.proofs.Questions.{rule-answers}
 use Rattle.sheets.proofs.AcceptedMachine.{signals-sized}
+use Rattle.truth.specs.Sizes.{rowWords}
 use Rattle.comparison.specs.Comparison.{Written, nextWords}
 use Rattle.comparison.specs.CompareAnswers.{comparisonQuestions}
 use Rattle.comparison.proofs.CompareTable.{Compared, compared}
@@ -19,11 +21,11 @@ use Rattle.explain.specs.Verdicts.{Labelable, Telling}
 module _ (M₁ M₂ R before after : List ℕ) (w : Written M₁ M₂ R before after) where
   -- ---- where it ends
 
-  head-word : (i : ℕ) → i + 1 ≤ 33 → word R i ≡ getD (1 ∷ 4 ∷ 5 ∷ lines R ∷ 1 ∷ 1 ∷ nextWords) i 0
+  head-word : (i : ℕ) → i + 1 ≤ nextHead → word R i ≡ getD (1 ∷ 4 ∷ 5 ∷ lines R ∷ 1 ∷ 1 ∷ nextWords) i 0
   unfolding word
-  head-word i h = sym (getD-take 33 R i 0 (omega arith)) ∙ ap (λ (l : List ℕ). getD l i 0) (w .head)
+  head-word i h = sym (getD-take nextHead R i 0 (omega arith)) ∙ ap (λ (l : List ℕ). getD l i 0) (w .head)
 
-  rule-length : length R ≡ 33 + 6 * lines R
+  rule-length : length R ≡ nextHead + lineWords * lines R
   unfolding q8 lent automata states transitions
   rule-length =
       let e = eqb→eq (length R) _ (rule-answers lent R (w .accepted) .eight) in
@@ -34,9 +36,9 @@ module _ (M₁ M₂ R before after : List ℕ) (w : Written M₁ M₂ R before a
   lines-after =
       ap (λ (l : List ℕ). getD l 3 0) (w .stands) ∙ List·getD-append R (drop (length R) before) 0 3 (omega (arith, rule-length))
 
-  module _ (end : ℕ) (e : end ≡ 33 + 6 * lines after) where
+  module _ (end : ℕ) (e : end ≡ nextHead + lineWords * lines after) where
     ends : length R ≡ end
-    ends = rule-length ∙ sym (e ∙ ap (λ (l : ℕ). 33 + 6 * l) lines-after)
+    ends = rule-length ∙ sym (e ∙ ap (λ (l : ℕ). nextHead + lineWords * l) lines-after)
 
     pub rule-within : end ≤ length after
     rule-within = omega (arith, ends, ap length (w .stands), length-append R (drop (length R) before))
@@ -51,7 +53,7 @@ module _ (M₁ M₂ R before after : List ℕ) (w : Written M₁ M₂ R before a
     unfolding noRefusal
     known = compared M₁ M₂ (length before) (ap (λ (r : Refusal). r .number) asked)
 
-    few-lines : lines R ≤ 1024
+    few-lines : lines R ≤ linesMost
     few-lines =
         let k = known in
         omega (arith, w .short, k .few, signals-sized M₁ (k .first) .1)
@@ -59,7 +61,7 @@ module _ (M₁ M₂ R before after : List ℕ) (w : Written M₁ M₂ R before a
     pub telling : Telling M₁ M₂ R
     unfolding Labelable noRefusal
     telling = record {
-      first = ap (λ (r : Refusal). r .number) (w .labels₁ 2048 (omega (arith, few-lines)));
-      second = ap (λ (r : Refusal). r .number) (w .labels₂ 2048 (omega (arith, few-lines)));
+      first = ap (λ (r : Refusal). r .number) (w .labels₁ (rowWords * linesMost) (omega (arith, few-lines)));
+      second = ap (λ (r : Refusal). r .number) (w .labels₂ (rowWords * linesMost) (omega (arith, few-lines)));
       apart = w .apart;
     }

@@ -7,6 +7,16 @@ use lib.Dec.{eqb}
 use lib.ListN.{length, getD}
 use Rattle.explain.specs.declared.page.Cursor.{Cursor}
 
+-- how many bytes a page has, how many a line before its end, and how many lines a page
+abbrev pub pageSize : ℕ
+pageSize = 4096
+
+abbrev pub pageWidth : ℕ
+pageWidth = 100
+
+abbrev pub pageHeight : ℕ
+pageHeight = 40
+
 -- how many bytes stand between the last line end before place i and place i; a line ends with byte 10
 unfoldable pub column : List ℕ → ℕ → ℕ
 column page zero = 0
@@ -17,15 +27,15 @@ unfoldable pub ended : List ℕ → ℕ → ℕ
 ended page zero = 0
 ended page (suc i) = cond (eqb (getD page i 0) 10) (suc (ended page i)) (ended page i)
 
--- the first n bytes: no line has more than 100 bytes before its end, and at most 40 lines are ended
+-- the first n bytes: no line is too long, and not too many are ended
 pub record Narrow (page : List ℕ) (n : ℕ) : Type 0 where
-  pub inside : n ≤ 4096
-  pub narrow : (i : ℕ) → i ≤ n → column page i ≤ 100
-  pub few : ended page n ≤ 40
+  pub inside : n ≤ pageSize
+  pub narrow : (i : ℕ) → i ≤ n → column page i ≤ pageWidth
+  pub few : ended page n ≤ pageHeight
 
 -- the cursor stands behind such bytes, and says how long the last line is and how many are ended
 pub record Laid (page : List ℕ) (c : Cursor) : Type 0 where
-  pub size : length page ≡ 4096
+  pub size : length page ≡ pageSize
   pub above : Narrow page (c .at)
   pub column : column page (c .at) ≡ c .column
   pub ended : ended page (c .at) ≡ c .lines

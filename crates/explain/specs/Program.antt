@@ -1,40 +1,21 @@
 -- What the explaining program says of its input, and the rule that it leaves in the space.
 use mathlib.Core.Path.{_≡_}
-use Prim.Native.Nat.{ℕ, _≤_}
+use Prim.Native.Nat.{ℕ}
 use mathlib.Core.List.{List}
-use mathlib.Core.Bool.{true, false}
-use lib.ListN.{length}
-use Rattle.sheets.specs.Questions.{Refusal, none, firstNo}
-use Rattle.input.specs.Bytes.{readable, wordsOf}
-use Rattle.input.specs.Cut.{firstSheet, secondSheet}
+use Rattle.input.specs.Limits.{machinesBytes}
+use Rattle.input.specs.Replies.{Reply}
 use Rattle.comparison.specs.Comparison.{Written}
-use Rattle.comparison.specs.Comparison as Comparison
-use Rattle.comparison.specs.CompareAnswers.{comparisonQuestions}
+use Rattle.comparison.specs.CompareAnswers.{CompareAnswer}
+use Rattle.comparison.specs.declared.compare.Answer.the-variants.{Refused, Unequal}
 use Rattle.explain.specs.Verdicts.{Judged}
-use Rattle.explain.specs.declared.answer.Said.{Said}
-use Rattle.explain.specs.declared.answer.Said.the-variants.{Refused, Equal, Unequal}
+use Rattle.explain.specs.declared.answer.Explanation.{Explanation}
 
--- the number and the sheet of each case: a refusal carries them, the others refuse nothing
-unfoldable pub refusalOf : Said → Refusal
-unfolding none
-refusalOf (Refused q i) = record { number = q; sheet = i }
-refusalOf Equal = none
-refusalOf (Unequal v) = none
-
--- the values of each case: refused or equal, the whole space is as before; unequal, a rule stands in it on which the verdict is right
-unfoldable pub Leaves : List ℕ → List ℕ → List ℕ → List ℕ → Said → Type 0
-unfolding Comparison.Equal
-Leaves M₁ M₂ before after (Refused q i) = (1 ≤ q) × (after ≡ before)
-Leaves M₁ M₂ before after Equal = Comparison.Equal M₁ M₂ × (after ≡ before)
-Leaves M₁ M₂ before after (Unequal v) = (R : List ℕ) × Written M₁ M₂ R before after × Judged M₁ M₂ R v
-
--- what is said of two sheets: the refusal by the first question of the comparison that says no, or equal, or unequal
-pub record Explained (M₁ M₂ before after : List ℕ) (said : Said) : Type 0 where
-  pub refusal : refusalOf said ≡ firstNo (comparisonQuestions M₁ M₂ (length before))
-  pub leaves : Leaves M₁ M₂ before after said
+-- what is said of two sheets: the comparison's answer; unequal, a rule stands in the space on which the verdict is right
+pub record Explained (M₁ M₂ before after : List ℕ) (said : Explanation) : Type 0 where
+  pub compared : CompareAnswer M₁ M₂ before after (said .answer)
+  pub judged : said .answer ≡ Unequal → (R : List ℕ) × Written M₁ M₂ R before after × Judged M₁ M₂ R (said .verdict)
 
 -- what is said of bytes: refused by 0 where they are odd in number or too many, otherwise what is said of their two sheets
-pub record Answered (bytes before after : List ℕ) (said : Said) : Type 0 where
-  pub refused : readable 20000 (length bytes) ≡ false → (said ≡ Refused 0 0) × (after ≡ before)
-  pub explained : readable 20000 (length bytes) ≡ true
-      → Explained (firstSheet (wordsOf bytes)) (secondSheet (wordsOf bytes)) before after said
+abbrev pub Answered : List ℕ → List ℕ → List ℕ → Explanation → Type 0
+Answered bytes before after said =
+    Reply machinesBytes bytes ((said .answer ≡ Refused 0 0) × (after ≡ before)) (λ (M₁ M₂ : List ℕ). Explained M₁ M₂ before after said)

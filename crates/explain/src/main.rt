@@ -7,13 +7,16 @@ mod parts; // parts.rt: what holds together where a line holds
 mod sentence; // sentence.rt: the rule as one sentence
 mod printing; // printing.rt: the answer in words
 
+use input::limits;
 use libc::STDIN_FILENO;
 
 // Reads one byte more than is taken, so that a longer input is noticed.
 fn main() {
-    let mut input = [0u8; 20001];
+    let mut input = [0u8; limits::MACHINES_BYTES + 1];
     let n = io::read_full(STDIN_FILENO, &mut input);
-    let mut rule = [0u16; 5505];
-    let said = answer::explain_bytes(&input[..n], &mut rule);
-    printing::print(said, &rule);
+    let mut rule = [0u16; limits::RULE_WORDS];
+    let said = answer::answer_to(&input[..n], &mut rule);
+    let answer = said.answer;
+    let verdict = said.verdict;
+    printing::print(answer, verdict, &rule);
 }

@@ -1,8 +1,14 @@
-// A page of text: bytes in a lent space, line below line, none longer than 100 bytes and not more than 40 of them.
-ghost use Rattle.explain.specs.Pages.{Follows, Laid};
+// A page of text: bytes in a lent space, line below line, none of them too long and not too many.
+ghost use Rattle.explain.specs.Pages.{Follows};
 ghost use mathlib.Core.Path.{_≡_};
 ghost use Prim.Native.Nat.{_<_};
-ghost use lib.ListN.{length};
+
+// How many bytes a page has, how many a line before its end, and how many lines a page.
+pub const SIZE: usize = 4096;
+
+pub const WIDTH: u16 = 100;
+
+pub const HEIGHT: u16 = 40;
 
 // Where the next byte goes, how long the line is so far, how many lines are ended; `over` where a byte found no room.
 pub struct Cursor {
@@ -36,14 +42,14 @@ fn without_room(c: Cursor) -> Cursor
 }
 
 // Puts one byte, which ends no line.
-fn put_byte(page: &mut [u8; 4096], c: Cursor, byte: u8) -> Cursor
+fn put_byte(page: &mut [u8; SIZE], c: Cursor, byte: u8) -> Cursor
     ensures { λ r. ⌜ Follows (now (page .entry)) c (now (page .exit)) r ⌝ }
 {
     let at = c.at;
-    if at >= 4096 {
+    if at >= SIZE {
         return without_room(c);
     }
-    if c.column >= 100 {
+    if c.column >= WIDTH {
         return without_room(c);
     }
     if byte == b'\n' {
@@ -59,14 +65,14 @@ fn put_byte(page: &mut [u8; 4096], c: Cursor, byte: u8) -> Cursor
 }
 
 // Ends the line.
-pub fn end_line(page: &mut [u8; 4096], c: Cursor) -> Cursor
+pub fn end_line(page: &mut [u8; SIZE], c: Cursor) -> Cursor
     ensures { λ r. ⌜ Follows (now (page .entry)) c (now (page .exit)) r ⌝ }
 {
     let at = c.at;
-    if at >= 4096 {
+    if at >= SIZE {
         return without_room(c);
     }
-    if c.lines >= 40 {
+    if c.lines >= HEIGHT {
         return without_room(c);
     }
     page[at] = b'\n';
@@ -79,7 +85,7 @@ pub fn end_line(page: &mut [u8; 4096], c: Cursor) -> Cursor
 }
 
 // Puts the bytes of a text of one line.
-pub fn put(page: &mut [u8; 4096], c: Cursor, bytes: &[u8]) -> Cursor
+pub fn put(page: &mut [u8; SIZE], c: Cursor, bytes: &[u8]) -> Cursor
     ensures { λ r. ⌜ Follows (now (page .entry)) c (now (page .exit)) r ⌝ }
 {
     let mut c = c;
@@ -92,7 +98,7 @@ pub fn put(page: &mut [u8; 4096], c: Cursor, bytes: &[u8]) -> Cursor
 }
 
 // Puts the digit of a number at a power of ten, where the number is not below it.
-fn put_digit(page: &mut [u8; 4096], c: Cursor, n: u16, unit: u16) -> Cursor
+fn put_digit(page: &mut [u8; SIZE], c: Cursor, n: u16, unit: u16) -> Cursor
     requires { ⌜ 0 < unit ⌝ }
     ensures { λ r. ⌜ Follows (now (page .entry)) c (now (page .exit)) r ⌝ }
 {
@@ -103,7 +109,7 @@ fn put_digit(page: &mut [u8; 4096], c: Cursor, n: u16, unit: u16) -> Cursor
 }
 
 // Puts a number from 1 on in decimal digits.
-pub fn put_number(page: &mut [u8; 4096], c: Cursor, n: u16) -> Cursor
+pub fn put_number(page: &mut [u8; SIZE], c: Cursor, n: u16) -> Cursor
     ensures { λ r. ⌜ Follows (now (page .entry)) c (now (page .exit)) r ⌝ }
 {
     let mut c = c;
@@ -116,7 +122,7 @@ pub fn put_number(page: &mut [u8; 4096], c: Cursor, n: u16) -> Cursor
 }
 
 // Begins a line, two blanks in for each level.
-pub fn indent(page: &mut [u8; 4096], c: Cursor, level: u16) -> Cursor
+pub fn indent(page: &mut [u8; SIZE], c: Cursor, level: u16) -> Cursor
     ensures { λ r. ⌜ Follows (now (page .entry)) c (now (page .exit)) r ⌝ }
 {
     let mut c = c;

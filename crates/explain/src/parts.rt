@@ -1,11 +1,11 @@
 // The parts of a line: what holds together exactly where the line holds, or exactly where it does not. A line that says "not" is what
 // it denies, the other way round; "neither" of two lines is taken apart into both.
+use sheets::format;
 use sheets::lines;
 use sheets::lines::Decoded;
 use sheets::lines::Line;
-use sheets::rules;
 
-// A line as the comparison writes them; the one automaton is Next, whose line is word 2 of the record.
+// A line as the comparison writes them; the one automaton is Next, which has one line.
 pub enum Says {
     Signal(u16),
     Not(u16),
@@ -24,7 +24,7 @@ pub fn meaning(rule: &[u16], j: u16) -> Says {
         Line::Signal(i) => Says::Signal(i),
         Line::Negation(k) => Says::Not(k),
         Line::Either(i, k) => Says::Or(i, k),
-        Line::SomePath(_) => Says::Next(rules::line_word(rule, j, 2)),
+        Line::SomePath(p) => Says::Next(p.first),
         Line::SomePathNot(_) => Says::Other,
     }
 }
@@ -33,6 +33,9 @@ pub fn meaning(rule: &[u16], j: u16) -> Says {
 pub const HOLDS: u8 = 1;
 
 pub const FAILS: u8 = 2;
+
+// How many lines have a mark: a written rule has fewer.
+pub const MARKS: usize = format::LINES;
 
 // The signals that are on and those that are off, bit i - 1 for signal i, and how many lines stay marked as parts. `room` is how many
 // more lines may be taken apart.
@@ -43,20 +46,22 @@ pub struct Parts {
     room: u16,
 }
 
-pub fn mark_of(marks: &[u8; 1024], j: u16) -> u8 {
-    if j < 1024 {
-        return marks[j as usize];
+pub fn mark_of(marks: &[u8; MARKS], j: u16) -> u8 {
+    let at = j as usize;
+    if at < MARKS {
+        return marks[at];
     }
     0
 }
 
-fn set_mark(marks: &mut [u8; 1024], j: u16, mark: u8) {
-    if j < 1024 {
-        marks[j as usize] = mark;
+fn set_mark(marks: &mut [u8; MARKS], j: u16, mark: u8) {
+    let at = j as usize;
+    if at < MARKS {
+        marks[at] = mark;
     }
 }
 
-fn add_mark(marks: &mut [u8; 1024], j: u16, mark: u8) {
+fn add_mark(marks: &mut [u8; MARKS], j: u16, mark: u8) {
     let before = mark_of(marks, j);
     set_mark(marks, j, before | mark);
 }
@@ -75,7 +80,7 @@ fn bit(i: u16) -> u16 {
     if i == 0 {
         return 0;
     }
-    1 << ((i - 1) % 16)
+    1 << ((i - 1) % format::WORD_BITS)
 }
 
 fn with_signal(p: Parts, i: u16, mark: u8) -> Parts {
@@ -96,7 +101,7 @@ fn with_line(p: Parts) -> Parts {
 }
 
 // Neither line i nor line j, if there is room to say so; otherwise the line stays marked.
-fn with_neither(marks: &mut [u8; 1024], p: Parts, l: u16, i: u16, j: u16) -> Parts {
+fn with_neither(marks: &mut [u8; MARKS], p: Parts, l: u16, i: u16, j: u16) -> Parts {
     if p.room == 0 {
         return with_line(p);
     }
@@ -109,7 +114,7 @@ fn with_neither(marks: &mut [u8; 1024], p: Parts, l: u16, i: u16, j: u16) -> Par
 }
 
 // Line l has this mark, and every line below it is done.
-fn take_apart(rule: &[u16], marks: &mut [u8; 1024], p: Parts, l: u16, mark: u8) -> Parts {
+fn take_apart(rule: &[u16], marks: &mut [u8; MARKS], p: Parts, l: u16, mark: u8) -> Parts {
     let said = meaning(rule, l);
     match said {
         Says::Signal(i) => {
@@ -132,7 +137,7 @@ fn take_apart(rule: &[u16], marks: &mut [u8; 1024], p: Parts, l: u16, mark: u8) 
 }
 
 // The parts of line k with this mark: signals, and the lines that are left marked, at most 12.
-pub fn gather(rule: &[u16], marks: &mut [u8; 1024], k: u16, mark: u8) -> Parts {
+pub fn gather(rule: &[u16], marks: &mut [u8; MARKS], k: u16, mark: u8) -> Parts {
     set_mark(marks, k, mark);
     let mut p = Parts {
         on: 0,

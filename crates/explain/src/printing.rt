@@ -1,7 +1,8 @@
 // The answer in words, on standard output. What a descriptor carries cannot be said in a contract; each function is proved safe and ends.
-use crate::answer::Said;
+use crate::page;
 use crate::sentence;
 use crate::verdict::Verdict;
+use comparison::compare::Answer;
 use say::number;
 use say::text;
 use sheets::lines;
@@ -10,13 +11,13 @@ use sheets::lines::Line;
 use sheets::rules;
 
 // Prints what is said of the input; the rule stands at the head of the space.
-pub fn print(said: Said, rule: &[u16]) {
-    match said {
-        Said::Refused { question, sheet } => say::refusal(question, sheet),
-        Said::Equal => text(
+pub fn print(answer: Answer, verdict: Verdict, rule: &[u16]) {
+    match answer {
+        Answer::Refused { question, sheet } => say::refusal(question, sheet),
+        Answer::Equal => text(
             b"The two machines are equal: every rule is kept by both or by neither. A replacement needs no rehearsal call.\n",
         ),
-        Said::Unequal { verdict } => {
+        Answer::Unequal => {
             text(
                 b"The two machines are unequal. One of them keeps this rule and the other does not:\n",
             );
@@ -30,7 +31,7 @@ pub fn print(said: Said, rule: &[u16]) {
 
 // The rule in one sentence.
 fn print_sentence(rule: &[u16]) {
-    let mut page = [0u8; 4096];
+    let mut page = [0u8; page::SIZE];
     let n = sentence::sentence(rule, &mut page);
     text(&page[..n]);
 }
@@ -65,11 +66,8 @@ fn print_meaning(rule: &[u16], j: u16) {
         Line::Signal(i) => print_signal(i),
         Line::Negation(k) => print_negation(k),
         Line::Either(i, k) => print_either(i, k),
-        Line::SomePath(_) => print_next(b"some next node has line ", rules::line_word(rule, j, 2)),
-        Line::SomePathNot(_) => print_next(
-            b"some next node does not have line ",
-            rules::line_word(rule, j, 2),
-        ),
+        Line::SomePath(p) => print_next(b"some next node has line ", p.first),
+        Line::SomePathNot(p) => print_next(b"some next node does not have line ", p.first),
     }
 }
 

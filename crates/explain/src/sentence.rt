@@ -3,18 +3,20 @@
 ghost use mathlib.Core.Path.{_≡_};
 ghost use Prim.Native.Nat.{_<_};
 ghost use lib.ListN.{length};
-ghost use Rattle.explain.specs.Pages.{Follows, Narrow};
+ghost use Rattle.sheets.specs.Format.{wordBits};
+ghost use Rattle.explain.specs.Pages.{pageSize, Follows, Narrow};
 use crate::page;
 use crate::page::Cursor;
 use crate::parts;
 use crate::parts::Parts;
 use crate::parts::Says;
+use sheets::format;
 use sheets::rules;
 
 // ---- signals
 
 // What stands before a signal's number, but the first, in a list of signals; `left` are those from it on.
-fn between(page: &mut [u8; 4096], c: Cursor, left: u32, pair: bool) -> Cursor
+fn between(page: &mut [u8; page::SIZE], c: Cursor, left: u32, pair: bool) -> Cursor
     ensures { λ r. ⌜ Follows (now (page .entry)) c (now (page .exit)) r ⌝ }
 {
     if pair {
@@ -27,8 +29,8 @@ fn between(page: &mut [u8; 4096], c: Cursor, left: u32, pair: bool) -> Cursor
 }
 
 // The number of signal i + 1, if it is in the set; `pair` where two are in it and neither is on.
-fn put_signal(page: &mut [u8; 4096], c: Cursor, set: u16, i: u16, pair: bool) -> Cursor
-    requires { ⌜ i < 16 ⌝ }
+fn put_signal(page: &mut [u8; page::SIZE], c: Cursor, set: u16, i: u16, pair: bool) -> Cursor
+    requires { ⌜ i < wordBits ⌝ }
     ensures { λ r. ⌜ Follows (now (page .entry)) c (now (page .exit)) r ⌝ }
 {
     let from = set >> i;
@@ -44,65 +46,52 @@ fn put_signal(page: &mut [u8; 4096], c: Cursor, set: u16, i: u16, pair: bool) ->
 }
 
 // The numbers of a set of signals.
-fn numbers(page: &mut [u8; 4096], c: Cursor, set: u16, pair: bool) -> Cursor
+fn numbers(page: &mut [u8; page::SIZE], c: Cursor, set: u16, pair: bool) -> Cursor
     ensures { λ r. ⌜ Follows (now (page .entry)) c (now (page .exit)) r ⌝ }
 {
     let mut c = c;
     let mut i: u16 = 0;
-    while i < 16 {
+    while i < format::WORD_BITS {
         c = put_signal(page, c, set, i, pair);
         i += 1;
     }
     c
 }
 
-// "signals 1, 2 and 3 are on".
-fn several(page: &mut [u8; 4096], c: Cursor, set: u16, on: bool) -> Cursor
+// The numbers of a set of signals with the words around them; `pair` as above.
+fn listed(
+    page: &mut [u8; page::SIZE],
+    c: Cursor,
+    set: u16,
+    pair: bool,
+    head: &[u8],
+    tail: &[u8],
+) -> Cursor
     ensures { λ r. ⌜ Follows (now (page .entry)) c (now (page .exit)) r ⌝ }
 {
-    let begun = page::put(page, c, b"signals ");
-    let said = numbers(page, begun, set, false);
-    if on {
-        return page::put(page, said, b" are on");
-    }
-    page::put(page, said, b" are off")
+    let begun = page::put(page, c, head);
+    let said = numbers(page, begun, set, pair);
+    page::put(page, said, tail)
 }
 
-// "neither signal 1 nor signal 2 is on".
-fn neither(page: &mut [u8; 4096], c: Cursor, set: u16) -> Cursor
-    ensures { λ r. ⌜ Follows (now (page .entry)) c (now (page .exit)) r ⌝ }
-{
-    let begun = page::put(page, c, b"neither signal ");
-    let said = numbers(page, begun, set, true);
-    page::put(page, said, b" is on")
-}
-
-// "signal 1 is on".
-fn single(page: &mut [u8; 4096], c: Cursor, set: u16, on: bool) -> Cursor
-    ensures { λ r. ⌜ Follows (now (page .entry)) c (now (page .exit)) r ⌝ }
-{
-    let begun = page::put(page, c, b"signal ");
-    let said = numbers(page, begun, set, false);
-    if on {
-        return page::put(page, said, b" is on");
-    }
-    page::put(page, said, b" is off")
-}
-
-// That the signals of a set are on, or off.
-fn signals(page: &mut [u8; 4096], c: Cursor, set: u16, on: bool) -> Cursor
+// That the signals of a set are on, or off: "signal 1 is on", "signals 1, 2 and 3 are off", "neither signal 1 nor signal 2 is on".
+fn signals(page: &mut [u8; page::SIZE], c: Cursor, set: u16, on: bool) -> Cursor
     ensures { λ r. ⌜ Follows (now (page .entry)) c (now (page .exit)) r ⌝ }
 {
     let count = u16::count_ones(set);
     if count == 1 {
-        return single(page, c, set, on);
+        if on {
+            return listed(page, c, set, false, b"signal ", b" is on");
+        }
+        return listed(page, c, set, false, b"signal ", b" is off");
+    }
+    if on {
+        return listed(page, c, set, false, b"signals ", b" are on");
     }
     if count == 2 {
-        if !on {
-            return neither(page, c, set);
-        }
+        return listed(page, c, set, true, b"neither signal ", b" is on");
     }
-    several(page, c, set, on)
+    listed(page, c, set, false, b"signals ", b" are off")
 }
 
 // ---- places
@@ -122,11 +111,14 @@ fn fits(c: Cursor) -> bool {
     if c.over {
         return false;
     }
-    c.column < 100
+    c.column < page::WIDTH
 }
 
-// There is room to go on with so many lines as parts in the same line: with none, or with one, which takes at most 38 bytes and a comma,
-// since ", and line 938 holds and does not hold" is the longest.
+// How far a line may be where one more part goes on in it: such a part takes at most 38 bytes and a comma, since ", and line 938 holds and
+// does not hold" is the longest.
+const ONE_MORE: u16 = page::WIDTH - 39;
+
+// There is room to go on with so many lines as parts in the same line: with none, or with one.
 fn goes_on(c: Cursor, rest: u16) -> bool {
     if rest == 0 {
         return fits(c);
@@ -137,11 +129,11 @@ fn goes_on(c: Cursor, rest: u16) -> bool {
     if c.over {
         return false;
     }
-    c.column <= 61
+    c.column <= ONE_MORE
 }
 
 // Ends the line and begins the next one at a level.
-fn new_line(page: &mut [u8; 4096], c: Cursor, level: u16) -> Cursor
+fn new_line(page: &mut [u8; page::SIZE], c: Cursor, level: u16) -> Cursor
     ensures { λ r. ⌜ Follows (now (page .entry)) c (now (page .exit)) r ⌝ }
 {
     let ended = page::end_line(page, c);
@@ -149,7 +141,7 @@ fn new_line(page: &mut [u8; 4096], c: Cursor, level: u16) -> Cursor
 }
 
 // "and", in the same line or in the next one.
-fn and(page: &mut [u8; 4096], c: Cursor, level: u16, flow: bool) -> Cursor
+fn and(page: &mut [u8; page::SIZE], c: Cursor, level: u16, flow: bool) -> Cursor
     ensures { λ r. ⌜ Follows (now (page .entry)) c (now (page .exit)) r ⌝ }
 {
     if flow {
@@ -161,7 +153,7 @@ fn and(page: &mut [u8; 4096], c: Cursor, level: u16, flow: bool) -> Cursor
 }
 
 // "and", where another part stands before.
-fn after_others(page: &mut [u8; 4096], c: Cursor, at: Place) -> Cursor
+fn after_others(page: &mut [u8; page::SIZE], c: Cursor, at: Place) -> Cursor
     ensures { λ r. ⌜ Follows (now (page .entry)) c (now (page .exit)) r ⌝ }
 {
     if at.second {
@@ -171,7 +163,14 @@ fn after_others(page: &mut [u8; 4096], c: Cursor, at: Place) -> Cursor
 }
 
 // The signals among the parts: those that are on, and those that are off.
-fn on_and_off(page: &mut [u8; 4096], c: Cursor, on: u16, off: u16, level: u16, flow: bool) -> Cursor
+fn on_and_off(
+    page: &mut [u8; page::SIZE],
+    c: Cursor,
+    on: u16,
+    off: u16,
+    level: u16,
+    flow: bool,
+) -> Cursor
     ensures { λ r. ⌜ Follows (now (page .entry)) c (now (page .exit)) r ⌝ }
 {
     if on == 0 {
@@ -195,7 +194,7 @@ fn on_and_off(page: &mut [u8; 4096], c: Cursor, on: u16, off: u16, level: u16, f
 
 // The same, where there may be none.
 fn any_signals(
-    page: &mut [u8; 4096],
+    page: &mut [u8; page::SIZE],
     c: Cursor,
     on: u16,
     off: u16,
@@ -240,7 +239,7 @@ fn closed(c: Cursor) -> Put
 // A part that begins with these words and a colon, if there is room for what follows; otherwise nothing is put.
 fn opened(
     rule: &[u16],
-    page: &mut [u8; 4096],
+    page: &mut [u8; page::SIZE],
     c: Cursor,
     at: Place,
     words: &[u8],
@@ -252,7 +251,7 @@ fn opened(
     if at.deep == 0 {
         return closed(c);
     }
-    let mut marks = [0u8; 1024];
+    let mut marks = [0u8; parts::MARKS];
     let inner = parts::gather(rule, &mut marks, line, mark);
     let headed = page::put(page, c, words);
     let begun = page::put(page, headed, b": ");
@@ -284,14 +283,16 @@ fn opened(
     }
 }
 
+const LINES: usize = page::HEIGHT as usize;
+
 // There are lines left: below those that are ended, one for each part that is still to be put, and for what is set in below this one as
 // many as it has parts, and two for signals.
 fn has_lines(ended: u16, owed: u16, rest: u16) -> bool {
-    ended as usize + owed as usize + rest as usize + 2 <= 40
+    ended as usize + owed as usize + rest as usize + 2 <= LINES
 }
 
 // "line 7".
-fn put_line(page: &mut [u8; 4096], c: Cursor, l: u16) -> Cursor
+fn put_line(page: &mut [u8; page::SIZE], c: Cursor, l: u16) -> Cursor
     ensures { λ r. ⌜ Follows (now (page .entry)) c (now (page .exit)) r ⌝ }
 {
     let said = page::put(page, c, b"line ");
@@ -299,7 +300,7 @@ fn put_line(page: &mut [u8; 4096], c: Cursor, l: u16) -> Cursor
 }
 
 // A part that only refers to its line.
-fn referred(page: &mut [u8; 4096], c: Cursor, l: u16, mark: u8) -> Cursor
+fn referred(page: &mut [u8; page::SIZE], c: Cursor, l: u16, mark: u8) -> Cursor
     ensures { λ r. ⌜ Follows (now (page .entry)) c (now (page .exit)) r ⌝ }
 {
     let said = put_line(page, c, l);
@@ -313,7 +314,14 @@ fn referred(page: &mut [u8; 4096], c: Cursor, l: u16, mark: u8) -> Cursor
 }
 
 // Some next node, or none, has line j.
-fn next_part(rule: &[u16], page: &mut [u8; 4096], c: Cursor, at: Place, words: &[u8], j: u16) -> Put
+fn next_part(
+    rule: &[u16],
+    page: &mut [u8; page::SIZE],
+    c: Cursor,
+    at: Place,
+    words: &[u8],
+    j: u16,
+) -> Put
     ensures { λ r. ⌜ Follows (now (page .entry)) c (now (page .exit)) (r .cursor) ⌝ }
 {
     let put = opened(rule, page, c, at, words, j, parts::HOLDS);
@@ -326,7 +334,7 @@ fn next_part(rule: &[u16], page: &mut [u8; 4096], c: Cursor, at: Place, words: &
 }
 
 // Line l, "or", holds: it is not that neither does.
-fn or_part(rule: &[u16], page: &mut [u8; 4096], c: Cursor, at: Place, l: u16) -> Put
+fn or_part(rule: &[u16], page: &mut [u8; page::SIZE], c: Cursor, at: Place, l: u16) -> Put
     ensures { λ r. ⌜ Follows (now (page .entry)) c (now (page .exit)) (r .cursor) ⌝ }
 {
     let put = opened(rule, page, c, at, b"not", l, parts::FAILS);
@@ -337,7 +345,7 @@ fn or_part(rule: &[u16], page: &mut [u8; 4096], c: Cursor, at: Place, l: u16) ->
 }
 
 // Line l with its mark, as the first part or the next one; nothing, if it has no mark.
-fn part(rule: &[u16], page: &mut [u8; 4096], c: Cursor, at: Place, l: u16, mark: u8) -> Put
+fn part(rule: &[u16], page: &mut [u8; page::SIZE], c: Cursor, at: Place, l: u16, mark: u8) -> Put
     ensures { λ r. ⌜ Follows (now (page .entry)) c (now (page .exit)) (r .cursor) ⌝ }
 {
     if mark == 0 {
@@ -393,10 +401,17 @@ fn place_after(at: Place, mark: u8) -> Place {
 }
 
 // The parts of line k with this mark, joined by "and", each opened where there is room.
-fn put_parts(rule: &[u16], page: &mut [u8; 4096], c: Cursor, at: Place, k: u16, mark: u8) -> Cursor
+fn put_parts(
+    rule: &[u16],
+    page: &mut [u8; page::SIZE],
+    c: Cursor,
+    at: Place,
+    k: u16,
+    mark: u8,
+) -> Cursor
     ensures { λ r. ⌜ Follows (now (page .entry)) c (now (page .exit)) r ⌝ }
 {
-    let mut marks = [0u8; 1024];
+    let mut marks = [0u8; parts::MARKS];
     let inner = parts::gather(rule, &mut marks, k, mark);
     let mut c = any_signals(page, c, inner.on, inner.off, at.level, at.flow);
     let mut there = first_place(at, inner);
@@ -425,9 +440,9 @@ fn put_parts(rule: &[u16], page: &mut [u8; 4096], c: Cursor, at: Place, k: u16, 
 
 // Puts the sentence of the rule, its last line, at the head of the page, and answers how long it is. A sentence that found no room is
 // left out: its length is 0.
-pub fn sentence(rule: &[u16], page: &mut [u8; 4096]) -> usize
-    requires { ⌜ length (now page) ≡ 4096 ⌝ }
-    ensures { λ n. ⌜ (length (now (page .exit)) ≡ 4096) × Narrow (now (page .exit)) n ⌝ }
+pub fn sentence(rule: &[u16], page: &mut [u8; page::SIZE]) -> usize
+    requires { ⌜ length (now page) ≡ pageSize ⌝ }
+    ensures { λ n. ⌜ (length (now (page .exit)) ≡ pageSize) × Narrow (now (page .exit)) n ⌝ }
 {
     let whole = Place {
         deep: 12,

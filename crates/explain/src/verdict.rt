@@ -1,9 +1,11 @@
 // Which of two machines keeps a rule, and the first start node where the other breaks it.
 ghost use Rattle.truth.specs.Breaks.{FirstBreak};
 ghost use Rattle.explain.specs.Verdicts.{Labelable, Telling, Judged};
+use sheets::format;
 use sheets::rules;
 use truth::breaks;
 use truth::labelling;
+use truth::sizes;
 use truth::tables;
 
 // Whether it is the first machine that keeps a rule, or the second, and the first start node where the other breaks it.
@@ -17,7 +19,7 @@ fn broken_at(m: &[u16], rule: &[u16]) -> u16
     requires { ⌜ Labelable (now m) (now rule) ⌝ }
     ensures { λ s. ⌜ FirstBreak (now (m .entry)) (now (rule .entry)) s ⌝ }
 {
-    let mut rows = [0u64; 2048];
+    let mut rows = [0u64; sizes::ROW_WORDS * format::LINES];
     labelling::label(m, rule, &mut rows);
     let last = tables::line_row(&rows, rules::lines(rule) as usize);
     breaks::first_break(m, last)

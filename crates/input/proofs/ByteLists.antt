@@ -15,7 +15,7 @@ bytes-length [] = refl
 bytes-length (w ∷ ws) = let rest = bytes-length ws in omega arith
 
 -- the bytes of word i
-pub byte-low : (ws : List ℕ) (i : ℕ) → getD (bytesOf ws) (2 * i) 0 ≡ getD ws i 0 % 256
+byte-low : (ws : List ℕ) (i : ℕ) → getD (bytesOf ws) (2 * i) 0 ≡ getD ws i 0 % 256
 unfolding bytesOf
 byte-low [] i = refl
 byte-low (w ∷ ws) zero = refl
@@ -23,7 +23,7 @@ byte-low (w ∷ ws) (suc i) =
     let place : 2 * suc i ≡ suc (suc (2 * i)) = omega arith in
     rw place (byte-low ws i)
 
-pub byte-high : (ws : List ℕ) (i : ℕ) → getD (bytesOf ws) (2 * i + 1) 0 ≡ getD ws i 0 / 256
+byte-high : (ws : List ℕ) (i : ℕ) → getD (bytesOf ws) (2 * i + 1) 0 ≡ getD ws i 0 / 256
 unfolding bytesOf
 byte-high [] i = refl
 byte-high (w ∷ ws) zero = refl

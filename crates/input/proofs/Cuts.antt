@@ -1,17 +1,18 @@
--- Where the first sheet ends, by cases, the two parts of the words there, and the two sheets of bytes in lent words.
+-- Where the first sheet ends, by cases, the two sheets of bytes in lent words, and what a program answers to bytes from what it answers to
+-- sheets.
 use mathlib.Core.Path.{_≡_, refl, sym, ap, _∙_}
-use Prim.Native.Nat.{ℕ, _-_, _*_, _/_, _≤_, _<_, min}
+use Prim.Native.Nat.{ℕ, _+_, _-_, _*_, _/_, _≤_, _<_, min}
 use native.Mathlib.Omega.{arith}
 use mathlib.Core.List.{List, _++_}
-use mathlib.Core.Bool.{true, false}
-use lib.ListN.{length, take, drop, length-drop}
-use lib.Seq.{take-all, length-take-le, drop-at}
+use mathlib.Core.Bool.{Bool, true, false, true≢false}
+use lib.ListN.{length, take, drop}
+use lib.Seq.{take-take, take-add, length-take-le, drop-at}
 use borrow.Author.Tests.{le-leb, lt-leb}
 use Rattle.sheets.specs.Machine.{q1}
 use Rattle.input.specs.Bytes.{readable, wordsOf}
-use Rattle.input.specs.Cut.{headerEnd, firstEnd, firstSheet, secondSheet, Stand, TwoSheets, unreadable, sheets}
+use Rattle.input.specs.Cut.{headerEnd, firstEnd, firstSheet, secondSheet, firstIn, secondIn, wholeIn, TwoSheets}
+use Rattle.input.specs.Replies.{Reply}
 use Rattle.input.specs.declared.cut.Cut.{Cut}
-use Rattle.input.specs.declared.cut.Cut.the-variants.{Unreadable, Sheets}
 use Rattle.input.proofs.WordLists.{words-length, words-whole}
 
 module _ (words : List ℕ) where
@@ -27,73 +28,70 @@ module _ (words : List ℕ) where
   unfolding firstEnd
   end-not-reached h short = simp (h, lt-leb (headerEnd words) (length words) short)
 
--- the two parts of the words at the first sheet's end
-module _ (words : List ℕ) (end : ℕ) (e : end ≡ firstEnd words) where
-  pub first-part : take end words ≡ firstSheet words
-  unfolding firstSheet
-  first-part = rw e
-
-  pub second-part : take (length words - end) (drop end words) ≡ secondSheet words
-  unfolding secondSheet
-  second-part = rw (← e) (take-all (length words - end) (drop end words) (simp length-drop (omega arith)))
-
 -- ---- the two sheets of bytes in lent words
 
 module _ (bytes before : List ℕ) where
+  pub no-sheets : readable (2 * length before) (length bytes) ≡ false → TwoSheets bytes before before (record { refused = true; end = 0; count = 0 })
+  no-sheets other = record {
+    inside = record { ordered = omega arith; within = omega arith };
+    behind = refl;
+    refused = λ e. (other, refl);
+    taken = λ e. absurd (true≢false e);
+  }
+
   pub two-sheets : readable (2 * length before) (length bytes) ≡ true → (after : List ℕ) (count end : ℕ)
       → count ≡ min (length bytes / 2) (length before) → after ≡ take count (wordsOf bytes) ++ drop count before → length after ≡ length before
-      → end ≡ firstEnd (take count after) → end ≤ length (take count after) → TwoSheets bytes before after (Sheets end count)
+      → end ≡ firstEnd (take count after) → end ≤ length (take count after)
+      → TwoSheets bytes before after (record { refused = false; end = end; count = count })
   two-sheets ok after count end counted is size cut reached =
       let whole : take count after ≡ wordsOf bytes = words-whole (2 * length before) bytes before after count ok (omega arith) counted is in
       let within : count ≤ length after = omega arith in
       let head : length (take count (wordsOf bytes)) ≡ count = length-take-le count (wordsOf bytes) (omega (arith, words-length bytes)) in
-      sheets ok
-      (record {
-        whole = whole;
+      record {
+        inside = record { ordered = omega (arith, length-take-le count after within); within = within };
         behind = ap (drop count) is ∙ drop-at (take count (wordsOf bytes)) (drop count before) count head;
-        within = within;
-        cut = rw whole at cut;
-        ordered = omega (arith, length-take-le count after within);
-      })
+        refused = λ e. absurd (true≢false (sym e));
+        taken = λ e. (ok, whole, rw whole at cut);
+      }
 
--- ---- what a caller knows of them, with space for so many words: the bytes are not taken, or they are, and what it lends are the two sheets
+-- the parts of the words that the cut says are the two sheets
+module _ {bytes before after : List ℕ} {cut : Cut} (h : TwoSheets bytes before after cut) (e : cut .refused ≡ false) where
+  first-part : firstIn after cut ≡ firstSheet (wordsOf bytes)
+  unfolding firstSheet
+  first-part = rw (← h .taken e .2, ← h .taken e .1) (sym (take-take (cut .end) (cut .count) after (h .inside .ordered)))
 
-refused : {bytes before after : List ℕ} → TwoSheets bytes before after Unreadable
-    → (readable (2 * length before) (length bytes) ≡ false) × (after ≡ before)
-refused (unreadable e) = (e, refl)
+  second-part : secondIn after cut ≡ secondSheet (wordsOf bytes)
+  unfolding secondSheet
+  second-part =
+      let size : cut .end + (cut .count - cut .end) ≡ cut .count = omega (arith, h .inside .ordered) in
+      let head : length (firstIn after cut) ≡ cut .end = length-take-le (cut .end) after (omega (arith, h .inside .ordered, h .inside .within)) in
+      let split : wholeIn after cut ≡ firstIn after cut ++ secondIn after cut = rw size at (take-add (cut .end) (cut .count - cut .end) after) in
+      rw (← h .taken e .2, ← h .taken e .1, split) (sym (drop-at (firstIn after cut) (secondIn after cut) (cut .end) head))
 
-stands : {bytes before after : List ℕ} {end count : ℕ} → TwoSheets bytes before after (Sheets end count)
-    → (readable (2 * length before) (length bytes) ≡ true) × Stand (wordsOf bytes) before after end count
-stands (sheets e s) = (e, s)
+-- ---- the answer to bytes, from that to the two sheets in lent words, with space for so many
 
-module _ {bytes before after : List ℕ} {cut : Cut} (h : TwoSheets bytes before after cut) (room : ℕ) (size : length before ≡ room) where
-  pub not-readable : cut ≡ Unreadable → (readable (2 * room) (length bytes) ≡ false) × (after ≡ before)
-  not-readable e = rw size at (refused (rw e at h))
+module _ {bytes before after : List ℕ} {cut : Cut} (h : TwoSheets bytes before after cut) (room : ℕ) (size : length before ≡ room)
+    {Refused : Type 0} {Answered : List ℕ → List ℕ → Type 0} where
+  pub reply-refused : cut .refused ≡ true → Refused → Reply (2 * room) bytes Refused Answered
+  reply-refused e r =
+      let other = rw size at (h .refused e .0) in
+      record { refused = λ z. r; answered = λ ok. absurd (true≢false (sym ok ∙ other)) }
 
-  pub taken : {end count : ℕ} → cut ≡ Sheets end count → readable (2 * room) (length bytes) ≡ true
-  taken e = rw size at (stands (rw e at h) .0)
+  pub reply-answered : cut .refused ≡ false → {first second : List ℕ} → first ≡ firstIn after cut → second ≡ secondIn after cut
+      → Answered first second → Reply (2 * room) bytes Refused Answered
+  reply-answered e is₁ is₂ a =
+      let ok = rw size at (h .taken e .0) in
+      record {
+        refused = λ other. absurd (true≢false (sym ok ∙ other));
+        answered = λ z. rw (is₁ ∙ first-part h e, is₂ ∙ second-part h e) at a;
+      }
 
-module _ {bytes before after : List ℕ} {cut : Cut} {end count : ℕ} (h : TwoSheets bytes before after cut) (e : cut ≡ Sheets end count) where
-  stand : Stand (wordsOf bytes) before after end count
-  stand = stands (rw e at h) .1
-
-  pub within : count ≤ length after
-  within = stand .within
-
-  pub whole-length : count ≡ length (take count after)
-  whole-length = sym (length-take-le count after within)
-
-  pub end-reached : end ≤ length (take count after)
-  end-reached = let size = whole-length in omega (arith, stand .ordered)
-
-  pub end-within : end ≤ length after
-  end-within = omega (arith, stand .ordered, within)
-
-  pub first-length : end ≡ length (take end (take count after))
-  first-length = sym (length-take-le end (take count after) end-reached)
-
-  pub first-lent : take end (take count after) ≡ firstSheet (wordsOf bytes)
-  first-lent = rw (stand .whole) (first-part (wordsOf bytes) end (stand .cut))
-
-  pub second-lent : take (length (take count after) - end) (drop end (take count after)) ≡ secondSheet (wordsOf bytes)
-  second-lent = rw (stand .whole) (second-part (wordsOf bytes) end (stand .cut))
+-- a fact that either answer gives
+pub by-reply : {most : ℕ} {bytes : List ℕ} {Refused : Type 0} {Answered : List ℕ → List ℕ → Type 0} {A : Type 0}
+    → Reply most bytes Refused Answered → (readable most (length bytes) ≡ false → Refused → A)
+    → (readable most (length bytes) ≡ true → Answered (firstSheet (wordsOf bytes)) (secondSheet (wordsOf bytes)) → A) → A
+by-reply {most} {bytes} {A = A} reply f g = by (readable most (length bytes)) refl
+  where
+    by : (taken : Bool) → readable most (length bytes) ≡ taken → A
+    by true ok = g ok (reply .answered ok)
+    by false other = f other (reply .refused other)

@@ -1,4 +1,5 @@
 -- The laws of input.
+pub mod Passed
 pub mod WordLists
 pub mod ByteLists
 pub mod Cuts

@@ -15,6 +15,7 @@ use Rattle.text.specs.declared.read.Kind.{Kind}
 use Rattle.text.specs.declared.write.Written.{Written}
 use Rattle.text.specs.declared.write.Written.the-variants as Written
 use Rattle.text.proofs.Answers.{Got}
+use Rattle.input.specs.Limits.{sheetsWords, sheetsBytes, textBytes}
 use Rattle.input.specs.Bytes.{wordsOf, bytesOf}
 use Rattle.input.specs.Turns.{Turn, refused, done, ofRead, toBytes, ofWritten, toText}
 use Rattle.input.specs.declared.turn.Turned.{Turned}
@@ -24,34 +25,34 @@ use Rattle.input.proofs.ByteLists.{bytes-length}
 -- ---- text to bytes
 
 module _ (text lent : List ℕ) where
-  pub text-long : 200000 < length text → (Long ≡ toBytes text lent .answer) × (lent ≡ toBytes text lent .left)
+  pub text-long : textBytes < length text → (Long ≡ toBytes text lent .answer) × (lent ≡ toBytes text lent .left)
   unfolding toBytes refused
-  text-long long = let is = lt-ltb 200000 (length text) long in (rw is, rw is)
+  text-long long = let is = lt-ltb textBytes (length text) long in (rw is, rw is)
 
-  module _ (short : length text ≤ 200000) where
-    pub sheet-tight : length lent < 29006 → (NoRoom ≡ toBytes text lent .answer) × (lent ≡ toBytes text lent .left)
+  module _ (short : length text ≤ textBytes) where
+    pub sheet-tight : length lent < sheetsBytes → (NoRoom ≡ toBytes text lent .answer) × (lent ≡ toBytes text lent .left)
     unfolding toBytes refused
     sheet-tight tight =
-        let is = le-ltb 200000 (length text) short in
-        let space = lt-ltb (length lent) 29006 tight in
+        let is = le-ltb textBytes (length text) short in
+        let space = lt-ltb (length lent) sheetsBytes tight in
         (rw (is, space), rw (is, space))
 
-    module _ (roomy : 29006 ≤ length lent) where
-      pub text-faulty : (kind : Kind) (at : Place) → readingOf 14503 text ≡ fault kind at
+    module _ (roomy : sheetsBytes ≤ length lent) where
+      pub text-faulty : (kind : Kind) (at : Place) → readingOf sheetsWords text ≡ fault kind at
           → (Fault kind at ≡ toBytes text lent .answer) × (lent ≡ toBytes text lent .left)
       unfolding toBytes ofRead refused
       text-faulty kind at e =
-          let is = le-ltb 200000 (length text) short in
-          let space = le-ltb (length lent) 29006 roomy in
+          let is = le-ltb textBytes (length text) short in
+          let space = le-ltb (length lent) sheetsBytes roomy in
           (rw (is, space, e), rw (is, space, e))
 
-      pub bytes-done : (n count : ℕ) (list left : List ℕ) → Got (readingOf 14503 text) n list → length list ≡ 14503
+      pub bytes-done : (n count : ℕ) (list left : List ℕ) → Got (readingOf sheetsWords text) n list → length list ≡ sheetsWords
           → count ≡ 2 * min (length (take n list)) (length lent / 2) → left ≡ take count (bytesOf (take n list)) ++ drop count lent
           → (Done count ≡ toBytes text lent .answer) × (left ≡ toBytes text lent .left)
       unfolding toBytes ofRead done
       bytes-done n count list left got size counted is-left =
-          let is = le-ltb 200000 (length text) short in
-          let space = le-ltb (length lent) 29006 roomy in
+          let is = le-ltb textBytes (length text) short in
+          let space = le-ltb (length lent) sheetsBytes roomy in
           let ws = got .ws in
           let number : count ≡ 2 * min (length ws) (length lent / 2) = rw (got .head) at counted in
           let all : count ≡ length (bytesOf ws) = omega (arith, bytes-length ws, got .counted, got .fits) in
@@ -60,15 +61,15 @@ module _ (text lent : List ℕ) where
 -- ---- bytes to text
 
 module _ (sheet lent : List ℕ) where
-  pub sheet-long : 29006 < length sheet → (Long ≡ toText sheet lent .answer) × (lent ≡ toText sheet lent .left)
+  pub sheet-long : sheetsBytes < length sheet → (Long ≡ toText sheet lent .answer) × (lent ≡ toText sheet lent .left)
   unfolding toText refused
-  sheet-long long = let is = lt-ltb 29006 (length sheet) long in (rw is, rw is)
+  sheet-long long = let is = lt-ltb sheetsBytes (length sheet) long in (rw is, rw is)
 
-  module _ (short : length sheet ≤ 29006) where
+  module _ (short : length sheet ≤ sheetsBytes) where
     pub sheet-odd : length sheet % 2 ≡ 1 → (Odd ≡ toText sheet lent .answer) × (lent ≡ toText sheet lent .left)
     unfolding toText refused
     sheet-odd odd =
-        let is = le-ltb 29006 (length sheet) short in
+        let is = le-ltb sheetsBytes (length sheet) short in
         let odd = eq-eqb (length sheet % 2) 1 odd in
         (rw (is, odd), rw (is, odd))
 
@@ -76,7 +77,7 @@ module _ (sheet lent : List ℕ) where
         → left ≡ textLeft ws lent → (ofWritten written ≡ toText sheet lent .answer) × (left ≡ toText sheet lent .left)
     unfolding toText
     text-done even written ws left all is-written is-left =
-        let is = le-ltb 29006 (length sheet) short in
+        let is = le-ltb sheetsBytes (length sheet) short in
         let even = ne-eqb (length sheet % 2) 1 even in
         (rw (is, even, ← all, is-written), rw (is, even, ← all, is-left))
 
@@ -105,9 +106,9 @@ module _ (count : ℕ) (lent left : List ℕ) (size : length left ≡ length len
   pub bytes-fits : (text : List ℕ) → Fits (toBytes text lent)
   unfolding toBytes
   bytes-fits text =
-      fits-either (ltb 200000 (length text)) _ _ (fits-refused Long (λ e. let z : _≡_ {A = ℕ} 0 1 = cc in omega arith))
-      (fits-either (ltb (length lent) 29006) _ _ (fits-refused NoRoom (λ e. let z : _≡_ {A = ℕ} 0 1 = cc in omega arith))
-      (fits-read (readingOf 14503 text)))
+      fits-either (ltb textBytes (length text)) _ _ (fits-refused Long (λ e. let z : _≡_ {A = ℕ} 0 1 = cc in omega arith))
+      (fits-either (ltb (length lent) sheetsBytes) _ _ (fits-refused NoRoom (λ e. let z : _≡_ {A = ℕ} 0 1 = cc in omega arith))
+      (fits-read (readingOf sheetsWords text)))
 
   fits-written : (ws : List ℕ) → Fits (record { answer = ofWritten (writtenOf ws lent); left = textLeft ws lent })
   unfolding writtenOf textLeft ofWritten
@@ -123,6 +124,6 @@ module _ (count : ℕ) (lent left : List ℕ) (size : length left ≡ length len
   pub text-fits : (sheet : List ℕ) → Fits (toText sheet lent)
   unfolding toText
   text-fits sheet =
-      fits-either (ltb 29006 (length sheet)) _ _ (fits-refused Long (λ e. let z : _≡_ {A = ℕ} 0 1 = cc in omega arith))
+      fits-either (ltb sheetsBytes (length sheet)) _ _ (fits-refused Long (λ e. let z : _≡_ {A = ℕ} 0 1 = cc in omega arith))
       (fits-either (eqb (length sheet % 2) 1) _ _ (fits-refused Odd (λ e. let z : _≡_ {A = ℕ} 0 1 = cc in omega arith))
       (fits-written (wordsOf sheet)))

@@ -19,7 +19,7 @@ words-length (low ∷ []) = refl
 words-length (low ∷ high ∷ bytes) = ap suc (words-length bytes) ∙ omega arith
 
 -- word i is made of the bytes 2i and 2i + 1
-pub words-at : (bytes : List ℕ) (i : ℕ) → i < length bytes / 2
+words-at : (bytes : List ℕ) (i : ℕ) → i < length bytes / 2
     → getD (wordsOf bytes) i 0 ≡ wordOf (getD bytes (2 * i) 0) (getD bytes (2 * i + 1) 0)
 unfolding wordsOf
 words-at [] i h = absurd (omega arith)

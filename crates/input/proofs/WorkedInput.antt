@@ -7,10 +7,11 @@ use Rattle.sheets.specs.Words.{word, within}
 use Rattle.sheets.specs.Machine.{nodes, signals, edges, q1}
 use Rattle.sheets.specs.Worked.{M1, M2}
 use Rattle.input.specs.Bytes.{wordOf, wordsOf, bytesOf}
-use Rattle.input.specs.Cut.{headerEnd, firstEnd, firstSheet, secondSheet}
+use Rattle.input.specs.Cut.{firstEnd, firstSheet, secondSheet}
 use Rattle.text.specs.Decimals.{digits, decimal}
 use Rattle.input.specs.Lines.{refusedLine}
 
+-- end result
 pub read-back : (words : List ℕ) → wordsOf (bytesOf words) ≡ words
 unfolding bytesOf wordsOf wordOf
 read-back [] = refl
@@ -26,5 +27,5 @@ pub record InputCases : Type 0 where
   pub two : refusedLine 22 0 ≡ 114 ∷ 101 ∷ 102 ∷ 117 ∷ 115 ∷ 101 ∷ 100 ∷ 32 ∷ 50 ∷ 50 ∷ 32 ∷ 48 ∷ 10 ∷ []
 
 pub input-cases : InputCases
-unfolding refusedLine decimal digits bytesOf wordsOf wordOf firstSheet secondSheet firstEnd headerEnd q1 nodes signals edges word within
+unfolding refusedLine decimal digits bytesOf wordsOf wordOf firstSheet secondSheet firstEnd q1 nodes signals edges word within
 input-cases = record { case-a-first = refl; case-a-second = refl; five = refl; two = refl }

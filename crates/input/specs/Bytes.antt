@@ -1,5 +1,5 @@
 -- The bytes of standard input. Document 01: "The comparing program reads two machine sheets from standard input, low byte first,
--- at most 20,000 bytes". Each program says its own number.
+-- at most 20,000 bytes". Each program has its own number of bytes (`Limits`).
 use Prim.Native.Nat.{ℕ, _+_, _*_, _/_, _%_}
 use mathlib.Core.List.{List, [], _∷_}
 use mathlib.Core.Bool.{Bool, _&&_}

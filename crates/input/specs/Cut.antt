@@ -1,24 +1,23 @@
 -- Where the first sheet ends. Document 01: "the first sheet's header gives its end, if question 1 says yes and the words reach that
 -- far, else all words are the first sheet and the second is empty".
 use mathlib.Core.Path.{_≡_}
-use Prim.Native.Nat.{ℕ, _+_, _*_, _≤_}
+use Prim.Native.Nat.{ℕ, _-_, _*_, _≤_}
 use mathlib.Core.List.{List}
 use mathlib.Core.Bool.{true, false, cond, _&&_}
 use lib.ListN.{length, take, drop}
 use lib.Dec.{leb}
+use Rattle.sheets.specs.Format.{machineLength}
 use Rattle.sheets.specs.Machine.{nodes, edges, q1}
 use Rattle.input.specs.Bytes.{readable, wordsOf}
 use Rattle.input.specs.declared.cut.Cut.{Cut}
-use Rattle.input.specs.declared.cut.Cut.the-variants.{Unreadable, Sheets}
 
 -- "the first sheet's header gives its end": the length that question 2 asks for
-unfoldable pub headerEnd : List ℕ → ℕ
-unfolding nodes edges
-headerEnd words = 3 + 3 * nodes words + 2 * edges words
+abbrev pub headerEnd : List ℕ → ℕ
+headerEnd words = machineLength (nodes words) (edges words)
 
 -- "if question 1 says yes and the words reach that far, else all words are the first sheet"
 unfoldable pub firstEnd : List ℕ → ℕ
-unfolding q1 headerEnd
+unfolding q1 nodes edges
 firstEnd words = cond (q1 words && leb (headerEnd words) (length words)) (headerEnd words) (length words)
 
 -- the two sheets
@@ -30,17 +29,28 @@ unfoldable pub secondSheet : List ℕ → List ℕ
 unfolding firstEnd
 secondSheet words = drop (firstEnd words) words
 
--- words put at the head of lent ones, up to one place, with the first sheet up to another; the lent words behind are as before
-pub record Stand (words before after : List ℕ) (end count : ℕ) : Type 0 where
-  pub whole : take count after ≡ words
-  pub behind : drop count after ≡ drop count before
-  pub within : count ≤ length after
-  pub cut : end ≡ firstEnd words
-  pub ordered : end ≤ count
+-- ---- the two sheets in lent words
 
--- The bytes of standard input as two sheets in lent words. An odd number of bytes, or more than two for each word, is not readable, and
--- then the words are as before.
-pub data TwoSheets (bytes before : List ℕ) : List ℕ → Cut → Type 0 where
-  unreadable : readable (2 * length before) (length bytes) ≡ false → TwoSheets bytes before before Unreadable
-  sheets : {after : List ℕ} {end count : ℕ} → readable (2 * length before) (length bytes) ≡ true → Stand (wordsOf bytes) before after end count
-      → TwoSheets bytes before after (Sheets end count)
+-- what a cut says lies in the words
+pub record Inside (words : List ℕ) (cut : Cut) : Type 0 where
+  pub ordered : cut .end ≤ cut .count
+  pub within : cut .count ≤ length words
+
+-- the words of the first sheet, of the second, and all of them
+abbrev pub firstIn : List ℕ → Cut → List ℕ
+firstIn words cut = take (cut .end) words
+
+abbrev pub secondIn : List ℕ → Cut → List ℕ
+secondIn words cut = take (cut .count - cut .end) (drop (cut .end) words)
+
+abbrev pub wholeIn : List ℕ → Cut → List ℕ
+wholeIn words cut = take (cut .count) words
+
+-- The bytes of standard input as two sheets at the head of lent words; the words behind are as before. An odd number of bytes, or more
+-- than two for each word, is refused, and then no word is taken.
+pub record TwoSheets (bytes before after : List ℕ) (cut : Cut) : Type 0 where
+  pub inside : Inside after cut
+  pub behind : drop (cut .count) after ≡ drop (cut .count) before
+  pub refused : cut .refused ≡ true → (readable (2 * length before) (length bytes) ≡ false) × (cut .count ≡ 0)
+  pub taken : cut .refused ≡ false
+      → (readable (2 * length before) (length bytes) ≡ true) × (wholeIn after cut ≡ wordsOf bytes) × (cut .end ≡ firstEnd (wordsOf bytes))

@@ -2,6 +2,7 @@
 ghost use mathlib.Core.Path.{_≡_};
 ghost use Rattle.input.specs.Turns.{toBytes, toText};
 use crate::bytes;
+use crate::limits;
 use text::read;
 use text::read::Kind;
 use text::read::Place;
@@ -24,13 +25,13 @@ pub fn bytes_of_text(text: &[u8], sheet: &mut [u8]) -> Turned
     ensures answer { λ r. ⌜ r ≡ toBytes (now (text .entry)) (now (sheet .entry)) .answer ⌝ }
     ensures left { λ r. ⌜ now (sheet .exit) ≡ toBytes (now (text .entry)) (now (sheet .entry)) .left ⌝ }
 {
-    if 200000 < text.len() {
+    if limits::TEXT_BYTES < text.len() {
         return Turned::Long;
     }
-    if sheet.len() < 29006 {
+    if sheet.len() < limits::SHEETS_BYTES {
         return Turned::NoRoom;
     }
-    let mut words = [0u16; 14503];
+    let mut words = [0u16; limits::SHEETS_WORDS];
     let answer = read::words_of_text(text, &mut words);
     match answer {
         Reading::Words { count } => {
@@ -46,13 +47,13 @@ pub fn text_of_bytes(sheet: &[u8], text: &mut [u8]) -> Turned
     ensures answer { λ r. ⌜ r ≡ toText (now (sheet .entry)) (now (text .entry)) .answer ⌝ }
     ensures left { λ r. ⌜ now (text .exit) ≡ toText (now (sheet .entry)) (now (text .entry)) .left ⌝ }
 {
-    if 29006 < sheet.len() {
+    if limits::SHEETS_BYTES < sheet.len() {
         return Turned::Long;
     }
     if sheet.len() % 2 == 1 {
         return Turned::Odd;
     }
-    let mut words = [0u16; 14503];
+    let mut words = [0u16; limits::SHEETS_WORDS];
     let count = bytes::words_of(sheet, &mut words);
     let answer = write::text_of_words(&words[..count], text);
     match answer {

@@ -3,26 +3,28 @@
 mod answer; // answer.rt: what is answered to the input
 mod print; // print.rt: what is printed
 
-use answer::Answer;
+use input::limits;
 use libc::STDIN_FILENO;
+use sheets::format;
+use truth::labelling::Labelled;
+use truth::sizes;
 
-// Reads one byte more than is taken, so that a longer input is noticed. The rows have space for 1,024 lines.
+// Reads one byte more than is taken, so that a longer input is noticed.
 fn main() {
-    let mut input = [0u8; 29007];
+    let mut input = [0u8; limits::SHEETS_BYTES + 1];
     let n = io::read_full(STDIN_FILENO, &mut input);
-    let mut rows = [0u64; 2048];
+    let mut rows = [0u64; sizes::ROW_WORDS * format::LINES];
     let answer = answer::answer_to(&input[..n], &mut rows);
-    match answer {
-        Answer::Refused { question, sheet } => say::refusal(question, sheet),
-        Answer::Done {
-            nodes,
-            lines,
+    let labelled = answer.labelled;
+    match labelled {
+        Labelled::Refused { question, sheet } => say::refusal(question, sheet),
+        Labelled::Done {
             kept,
             count,
             percent,
         } => {
-            print::rows(&rows, nodes, lines);
-            print::verdict(nodes, kept, count, percent);
+            print::rows(&rows, answer.nodes, answer.lines);
+            print::verdict(answer.nodes, kept, count, percent);
         }
     }
 }

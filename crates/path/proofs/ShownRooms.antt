@@ -1,14 +1,13 @@
 -- The pairs of an answer fit both lent lists.
-use mathlib.Core.Path.{_≡_, refl}
+use mathlib.Core.Path.{_≡_}
 use Prim.Native.Nat.{ℕ, _≤_}
 use native.Mathlib.Omega.{arith}
 use mathlib.Core.List.{List}
-use mathlib.Core.Bool.{Bool, true, false}
 use lib.ListN.{length}
 use Rattle.truth.specs.PathAnswers.{Leaves, PathAnswer}
 use Rattle.truth.specs.declared.path.Shown.{Shown}
 use Rattle.truth.specs.declared.path.Shown.the-variants.{Path}
-use Rattle.input.specs.Bytes.{readable}
+use Rattle.input.proofs.Cuts.{by-reply}
 use Rattle.path.specs.Program.{Answered}
 
 module _ (j s : ℕ) (nodesBefore statesBefore nodesAfter statesAfter : List ℕ) (l b : ℕ) where
@@ -19,8 +18,5 @@ module _ (j s : ℕ) (nodesBefore statesBefore nodesAfter statesAfter : List ℕ
 
   pub pairs-fit : (bytes : List ℕ) (answer : Shown) → Answered bytes j s nodesBefore statesBefore nodesAfter statesAfter answer
       → answer ≡ Path l b → (l ≤ length nodesAfter) × (l ≤ length statesAfter)
-  pairs-fit bytes answer h e = by-count (readable 29006 (length bytes)) refl
-    where
-      by-count : (taken : Bool) → readable 29006 (length bytes) ≡ taken → (l ≤ length nodesAfter) × (l ≤ length statesAfter)
-      by-count true ok = room _ _ (rw e at (h .shown ok))
-      by-count false odd = let r = h .refused odd .0 in let z : _≡_ {A = ℕ} 0 1 = cc in absurd (omega arith)
+  pairs-fit bytes answer h e =
+      by-reply h (λ other r. let z : _≡_ {A = ℕ} 0 1 = cc in absurd (omega arith)) (λ ok shown. room _ _ (rw e at shown))

@@ -5,9 +5,11 @@ mod arguments; // arguments.rt: what the arguments ask for
 mod print; // print.rt: what is printed
 
 use arguments::Asked;
+use input::limits;
 use libc::STDERR_FILENO;
 use libc::STDIN_FILENO;
 use truth::path::Shown;
+use truth::sizes;
 
 fn usage() {
     io::write_all(
@@ -16,12 +18,12 @@ fn usage() {
     );
 }
 
-// Reads one byte more than is taken, so that a longer input is noticed. The lists have room for 128 nodes with 16 states each.
+// Reads one byte more than is taken, so that a longer input is noticed.
 fn show(line: u16, node: u16) {
-    let mut input = [0u8; 29007];
+    let mut input = [0u8; limits::SHEETS_BYTES + 1];
     let n = io::read_full(STDIN_FILENO, &mut input);
-    let mut nodes = [0u16; 2048];
-    let mut states = [0u16; 2048];
+    let mut nodes = [0u16; sizes::PAIRS];
+    let mut states = [0u16; sizes::PAIRS];
     let answer = answer::answer_to(&input[..n], line, node, &mut nodes, &mut states);
     match answer {
         Shown::Refused { question, sheet } => say::refusal(question, sheet),

@@ -1,8 +1,8 @@
 -- Two words are the same exactly where they are equal as lists: the answer of `check::same`.
-use mathlib.Core.Path.{_≡_, refl, sym, ap, _∙_}
+use mathlib.Core.Path.{_≡_, refl, sym}
 use Prim.Native.Nat.{ℕ}
 use mathlib.Core.List.{List, [], _∷_}
-use mathlib.Core.Bool.{Bool, true, false, true≢false, _&&_}
+use mathlib.Core.Bool.{Bool, true, false, true≢false}
 use lib.Dec.{T, eqb, eqb→eq, eqb-refl}
 use Rattle.sheets.proofs.Tests.{passed, and-left, and-right}
 use Rattle.sheet.specs.Arguments.{same}

@@ -13,9 +13,9 @@ use Rattle.sheets.specs.declared.checks.Check as Check
 use Rattle.sheets.specs.declared.checks.Check.the-variants.{Accepted, Refused}
 use Rattle.text.specs.Lines.{Holds}
 use Rattle.text.specs.Texts as Texts
-use Rattle.text.specs.declared.line.Line.{Line}
 use Rattle.text.specs.declared.read.Place.{Place}
 use Rattle.text.specs.declared.read.Kind.{Kind}
+use Rattle.input.specs.Limits.{sheetsWords, sheetsBytes, textBytes}
 use Rattle.input.specs.Bytes.{readable, wordsOf}
 use Rattle.input.specs.Lines.{refusedLine}
 use Rattle.sheet.specs.declared.answer.Sort.{Sort}
@@ -30,18 +30,18 @@ unfolding machineQuestions lent ruleQuestions
 questions Machine words = machineQuestions 1 words
 questions Rules words = ruleQuestions lent words
 
--- The answer to a sheet's bytes. The largest machine sheet with the largest rule sheet has 29,006, and no program takes more of them; more,
--- or an odd number, are refused as question 0.
+-- the answer to a sheet's bytes; more than the longest machine sheet with the longest rule sheet has, or an odd number, are refused as
+-- question 0
 pub data CheckedBytes (sort : Sort) (bytes : List ℕ) : Check.Check → Type 0 where
-  unreadable : readable 29006 (length bytes) ≡ false → CheckedBytes sort bytes (Refused 0 0)
-  words : {check : Check.Check} → readable 29006 (length bytes) ≡ true → Answered (questions sort (wordsOf bytes)) check → CheckedBytes sort bytes check
+  unreadable : readable sheetsBytes (length bytes) ≡ false → CheckedBytes sort bytes (Refused 0 0)
+  words : {check : Check.Check} → readable sheetsBytes (length bytes) ≡ true → Answered (questions sort (wordsOf bytes)) check → CheckedBytes sort bytes check
 
--- the answer to a sheet's text: of at most 200,000 bytes, and 14,503 words
+-- the answer to a sheet's text, which may be too long
 pub data CheckedText (sort : Sort) (text : List ℕ) : Answer.Answer → Type 0 where
-  long : 200000 < length text → CheckedText sort text Says.Long
-  fault : {kind : Kind} {at : Place} → length text ≤ 200000 → Texts.readingOf 14503 text ≡ Texts.fault kind at
+  long : textBytes < length text → CheckedText sort text Says.Long
+  fault : {kind : Kind} {at : Place} → length text ≤ textBytes → Texts.readingOf sheetsWords text ≡ Texts.fault kind at
       → CheckedText sort text (Says.Fault kind at)
-  words : {ws : List ℕ} {check : Check.Check} → length text ≤ 200000 → Texts.readingOf 14503 text ≡ Texts.words ws
+  words : {ws : List ℕ} {check : Check.Check} → length text ≤ textBytes → Texts.readingOf sheetsWords text ≡ Texts.words ws
       → Answered (questions sort ws) check → CheckedText sort text (Says.Checked check)
 
 -- the answer to the bytes of standard input, as a text or as the sheet's bytes

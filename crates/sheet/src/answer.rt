@@ -1,10 +1,10 @@
 // What is answered to a sheet that is checked, and the line that says it.
-ghost use mathlib.Core.Path.{_≡_};
 ghost use Rattle.sheets.specs.CheckAnswers.{Answered};
 ghost use Rattle.text.specs.Lines.{Holds};
 ghost use Rattle.sheet.specs.Program.{questions, CheckedBytes, CheckedText, Checked, checkLine, lineBytes};
 ghost use Rattle.sheet.specs.Program as Program;
-use input::bytes;
+use input::cut;
+use input::limits;
 use input::line;
 use sheets::checks;
 use sheets::checks::Check;
@@ -47,25 +47,25 @@ fn check_words(sort: Sort, words: &[u16]) -> Check
 fn check_bytes(sort: Sort, sheet: &[u8]) -> Check
     ensures { λ r. ⌜ CheckedBytes sort (now (sheet .entry)) r ⌝ }
 {
-    if !bytes::readable(sheet.len(), 29006) {
+    let mut words = [0u16; limits::SHEETS_WORDS];
+    let cut = cut::sheets_of(sheet, &mut words);
+    if cut.refused {
         return Check::Refused {
             question: 0,
             sheet: 0,
         };
     }
-    let mut words = [0u16; 14503];
-    let n = bytes::words_of(sheet, &mut words);
-    check_words(sort, &words[..n])
+    check_words(sort, cut::whole(&words, cut))
 }
 
 // The answer to a sheet's text.
 fn check_text(sort: Sort, text: &[u8]) -> Answer
     ensures { λ r. ⌜ CheckedText sort (now (text .entry)) r ⌝ }
 {
-    if 200000 < text.len() {
+    if limits::TEXT_BYTES < text.len() {
         return Answer::Long;
     }
-    let mut words = [0u16; 14503];
+    let mut words = [0u16; limits::SHEETS_WORDS];
     let reading = read::words_of_text(text, &mut words);
     match reading {
         Reading::Words { count } => {

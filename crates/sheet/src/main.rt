@@ -11,6 +11,7 @@ ghost use lib.ListN.{length};
 use answer::Answer;
 use answer::Sort;
 use asked::Asked;
+use input::limits;
 use input::turn;
 use input::turn::Turned;
 use libc::STDERR_FILENO;
@@ -38,25 +39,25 @@ fn main() {
 
 // Text in, bytes out. One byte more is read than is taken, so that a longer text is noticed.
 fn bytes() {
-    let mut text = [0u8; 200001];
+    let mut text = [0u8; limits::TEXT_BYTES + 1];
     let n = io::read_full(STDIN_FILENO, &mut text);
-    let mut sheet = [0u8; 29006];
+    let mut sheet = [0u8; limits::SHEETS_BYTES];
     let turned = turn::bytes_of_text(&text[..n], &mut sheet);
     tell(turned, &sheet, b"more than 200000 bytes\n");
 }
 
 // Bytes in, text out; six bytes of text are enough for a word.
 fn text() {
-    let mut sheet = [0u8; 29007];
+    let mut sheet = [0u8; limits::SHEETS_BYTES + 1];
     let n = io::read_full(STDIN_FILENO, &mut sheet);
-    let mut text = [0u8; 87018];
+    let mut text = [0u8; 6 * limits::SHEETS_WORDS];
     let turned = turn::text_of_bytes(&sheet[..n], &mut text);
     tell(turned, &text, b"more than 29006 bytes, 14503 words\n");
 }
 
 // A sheet in; its line out, and a refusal in words. One byte more is read than is taken of a text, and more than is taken of bytes.
 fn check(sort: Sort, text: bool) {
-    let mut input = [0u8; 200001];
+    let mut input = [0u8; limits::TEXT_BYTES + 1];
     let n = io::read_full(STDIN_FILENO, &mut input);
     let told = answer::told_for(sort, text, &input[..n]);
     let line = told.line;

@@ -12,7 +12,7 @@ use Rattle.sheets.specs.Rules.{Form, states, automata, variables, initia
 use Rattle.sheets.proofs.Tests.{and-left, and-right, and-both}
 use Rattle.sheets.proofs.Search.{within-at, each-at, any-at, any-in, all-at}
 use Rattle.sheets.proofs.Bits.{no-bit}
-use Rattle.sheets.proofs.Chains.{link-most, chain-first, chain-head, chain-in}
+use Rattle.sheets.proofs.Chains.{link-most, chain-first, chain-head}
 use Rattle.sheets.proofs.Questions.{RuleAnswers, rule-answers}
 
 module _ (F : Form) (R : List ℕ) (accepted : ruleRefusal F R ≡ 0) where

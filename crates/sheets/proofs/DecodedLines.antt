@@ -3,24 +3,26 @@ use mathlib.Core.Path.{_≡_, refl, sym, _∙_}
 use Prim.Native.Nat.{ℕ, zero, suc}
 use mathlib.Core.List.{List}
 use mathlib.Core.Bool.{Bool, true, false}
-use Rattle.sheets.specs.Rules.{lent, lineWord, lineFits}
-use Rattle.sheets.specs.Lines.{decodedBy, decoded}
+use lib.Dec.{T}
+use Rattle.sheets.specs.Structures as Structures
+use Rattle.sheets.specs.Rules.{lent, lineWord, lineFits, lineOf, line, signalMost}
+use Rattle.sheets.specs.Lines.{handed, decodedAs, decoded, mostOf}
 use Rattle.sheets.specs.declared.lines.Line.{Line}
-use Rattle.sheets.specs.declared.lines.Line.the-variants.{Either}
+use Rattle.sheets.specs.declared.lines.Decoded.{Decoded}
 use Rattle.sheets.specs.declared.lines.Decoded.the-variants.{Formed, Malformed}
 
 -- ---- from the operation `op` and the result b of question 15 of it
 
 module _ (R : List ℕ) (j op : ℕ) (read : op ≡ lineWord lent R j 0) where
-  by-fits : (n : ℕ) (t : Bool) → op ≡ n → (b : Bool) → b ≡ lineFits lent R j n → b ≡ t → decodedBy R j n t ≡ decoded R j
-  unfolding decoded
+  by-fits : (n : ℕ) (t : Bool) → op ≡ n → (b : Bool) → b ≡ lineFits lent R j n → b ≡ t → decodedAs t (lineOf lent R j n) ≡ decoded R j
+  unfolding decoded line
   by-fits n t e b q h =
       let d : lineWord lent R j 0 ≡ n = sym read ∙ e in
       let f : lineFits lent R j n ≡ t = sym q ∙ h in
       rw (d, f)
 
   pub unfit : (n : ℕ) → op ≡ n → (b : Bool) → b ≡ lineFits lent R j n → b ≡ false → Malformed ≡ decoded R j
-  unfolding decodedBy
+  unfolding decodedAs
   unfit n = by-fits n false
 
   pub unknown : (op ≡ 0 → ⊥) → (op ≡ 1 → ⊥) → (op ≡ 2 → ⊥) → (op ≡ 3 → ⊥) → (op ≡ 4 → ⊥) → Malformed ≡ decoded R j
@@ -35,29 +37,23 @@ module _ (R : List ℕ) (j op : ℕ) (read : op ≡ lineWord lent R j 0) where
       other (suc (suc (suc (suc zero)))) a b c d e = absurd (e refl)
       other (suc (suc (suc (suc (suc n))))) a b c d e = refl
 
-  module _ (first : ℕ) (one : first ≡ lineWord lent R j 1) where
-    pub formed : (n : ℕ) (line : ℕ → Line) → decodedBy R j n true ≡ Formed (line (lineWord lent R j 1)) → op ≡ n
-        → (b : Bool) → b ≡ lineFits lent R j n → b ≡ true → Formed (line first) ≡ decoded R j
-    formed n line e o b q h = rw one (sym e ∙ by-fits n true o b q h)
-
-    pub either : (second : ℕ) → second ≡ lineWord lent R j 2 → op ≡ 2 → (b : Bool) → b ≡ lineFits lent R j 2 → b ≡ true
-        → Formed (Either first second) ≡ decoded R j
-    unfolding decodedBy
-    either second two = rw two (formed 2 (λ i. Either i (lineWord lent R j 2)) refl)
+  pub formed : (n : ℕ) (d : Decoded) → d ≡ handed (lineOf lent R j n) → op ≡ n → (b : Bool) → b ≡ lineFits lent R j n → b ≡ true → d ≡ decoded R j
+  unfolding decodedAs
+  formed n d e o b q h = e ∙ by-fits n true o b q h
 
 -- ---- back to question 15
 
 module _ (R : List ℕ) (j : ℕ) where
   pub formed-fits : (l : Line) → decoded R j ≡ Formed l → lineFits lent R j (lineWord lent R j 0) ≡ true
   unfolding decoded
-  formed-fits l e = by (lineWord lent R j 0) (lineFits lent R j (lineWord lent R j 0)) e
+  formed-fits l e = by (lineFits lent R j (lineWord lent R j 0)) e
     where
-      by : (n : ℕ) (b : Bool) → decodedBy R j n b ≡ Formed l → b ≡ true
-      by n true e = refl
-      by n false e = cc
+      by : (b : Bool) → decodedAs b (line lent R j) ≡ Formed l → b ≡ true
+      by true e = refl
+      by false e = cc
 
-  malformed-by : (n : ℕ) (b : Bool) → lineFits lent R j n ≡ b → decodedBy R j n b ≡ Malformed → b ≡ false
-  unfolding decodedBy lineFits
+  malformed-by : (n : ℕ) (b : Bool) → lineFits lent R j n ≡ b → decodedAs b (lineOf lent R j n) ≡ Malformed → b ≡ false
+  unfolding decodedAs lineFits lineOf
   malformed-by n false f e = refl
   malformed-by zero true f e = cc
   malformed-by (suc zero) true f e = cc
@@ -67,5 +63,24 @@ module _ (R : List ℕ) (j : ℕ) where
   malformed-by (suc (suc (suc (suc (suc n))))) true f e = sym f
 
   pub malformed-fails : decoded R j ≡ Malformed → lineFits lent R j (lineWord lent R j 0) ≡ false
-  unfolding decoded
+  unfolding decoded line
   malformed-fails e = malformed-by (lineWord lent R j 0) (lineFits lent R j (lineWord lent R j 0)) refl e
+
+  -- ---- and to question 16
+
+  same-most : (a : ℕ) {k l : Line} → Formed k ≡ Formed l → mostOf a k ≡ mostOf a l
+  same-most a {k} {l} e = let f : k ≡ l = cc in rw f
+
+  most-by : (a : ℕ) (l : Line) (b : Bool) (m : Structures.Line) → decodedAs b m ≡ Formed l → mostOf a l ≡ signalMost a m
+  unfolding decodedAs mostOf signalMost
+  most-by a l false m e = cc
+  most-by a l true (Structures.signal i) e = sym (same-most a e)
+  most-by a l true (Structures.negation k) e = sym (same-most a e)
+  most-by a l true (Structures.either i k) e = sym (same-most a e)
+  most-by a l true (Structures.somePath x arg) e = sym (same-most a e)
+  most-by a l true (Structures.somePathNot x arg) e = sym (same-most a e)
+  most-by a l true Structures.malformed e = cc
+
+  pub most-decoded : (a : ℕ) (l : Line) → decoded R j ≡ Formed l → mostOf a l ≡ signalMost a (line lent R j)
+  unfolding decoded
+  most-decoded a l e = most-by a l (lineFits lent R j (lineWord lent R j 0)) (line lent R j) e

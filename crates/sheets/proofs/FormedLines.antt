@@ -3,11 +3,12 @@ use mathlib.Core.Path.{_≡_}
 use Prim.Native.Nat.{ℕ, zero, suc, _+_, _-_, _≤_, _<_}
 use native.Mathlib.Omega.{arith}
 use mathlib.Core.List.{List}
-use mathlib.Core.Bool.{not, _&&_, _||_}
-use lib.Dec.{T, leb, leb→le, le→leb, eqb}
+use mathlib.Core.Bool.{_&&_}
+use lib.Dec.{T, leb→le, le→leb}
 use Rattle.sheets.specs.Structures.{Automaton, Line, signal, negation, either, somePath, somePathNot, malformed}
+use Rattle.sheets.specs.Format.{signalsMost}
 use Rattle.sheets.specs.Words.{within}
-use Rattle.sheets.specs.Rules.{Form, automata, automaton, variables, lines, line, lineOf, lineWord, lineFits, pathFits, refersAbove, unused, ruleRefusal, overSignals}
+use Rattle.sheets.specs.Rules.{Form, automata, automaton, variables, lines, line, lineOf, lineWord, lineFits, pathFits, refersAbove, unused, ruleRefusal, signalMost, overSignals}
 use Rattle.sheets.proofs.Tests.{and-left, and-right}
 use Rattle.sheets.proofs.Search.{within-at, each-at, each-in}
 use Rattle.sheets.proofs.AcceptedRule.{line-fits}
@@ -39,9 +40,9 @@ module _ (F : Form) (R : List ℕ) (j : ℕ) where
         rw e at (refers 1 (variables R x) (search (and-left, and-right, t)) (suc i) (omega arith) l),
   )
 
-  formed-by : (a op : ℕ) → T (lineFits F R j op) → T (not (eqb op 0) || leb (lineWord F R j 1) a) → Formed a (automata R) (automaton R) j (lineOf F R j op)
-  unfolding lineFits pathFits lineOf Formed automaton
-  formed-by a zero t o = (within-at 1 16 (lineWord F R j 1) (search (and-left, t)) .0, leb→le (lineWord F R j 1) a o)
+  formed-by : (a op : ℕ) → T (lineFits F R j op) → T (signalMost a (lineOf F R j op)) → Formed a (automata R) (automaton R) j (lineOf F R j op)
+  unfolding lineFits pathFits lineOf signalMost Formed automaton
+  formed-by a zero t o = (within-at 1 signalsMost (lineWord F R j 1) (search (and-left, t)) .0, leb→le (lineWord F R j 1) a o)
   formed-by a (suc zero) t o = refers 0 1 (and-left (refersAbove F R j 0 1) (unused F R j 2) t) 1 (omega arith) (omega arith)
   formed-by a (suc (suc zero)) t o =
       let r = refers 0 2 (and-left (refersAbove F R j 0 2) (unused F R j 3) t) in
@@ -50,14 +51,14 @@ module _ (F : Form) (R : List ℕ) (j : ℕ) where
   formed-by a (suc (suc (suc (suc zero)))) t o = path-formed (lineWord F R j 1) t
   formed-by a (suc (suc (suc (suc (suc n))))) t o = t
 
-  signal-most : (op : ℕ) → T (lineFits F R j op) → T (not (eqb op 0) || leb (lineWord F R j 1) 16)
-  unfolding lineFits pathFits
-  signal-most zero t = le→leb (lineWord F R j 1) 16 (within-at 1 16 (lineWord F R j 1) (search (and-left, t)) .1)
+  signal-most : (op : ℕ) → T (lineFits F R j op) → T (signalMost signalsMost (lineOf F R j op))
+  unfolding lineFits pathFits lineOf signalMost
+  signal-most zero t = le→leb (lineWord F R j 1) signalsMost (within-at 1 signalsMost (lineWord F R j 1) (search (and-left, t)) .1)
   signal-most (suc zero) t = tt
   signal-most (suc (suc zero)) t = tt
   signal-most (suc (suc (suc zero))) t = tt
   signal-most (suc (suc (suc (suc zero)))) t = tt
-  signal-most (suc (suc (suc (suc (suc n))))) t = absurd t
+  signal-most (suc (suc (suc (suc (suc n))))) t = tt
 
 module _ (F : Form) (R : List ℕ) (accepted : ruleRefusal F R ≡ 0) where
   -- over as many signals as the sheet is
@@ -65,7 +66,7 @@ module _ (F : Form) (R : List ℕ) (accepted : ruleRefusal F R ≡ 0) where
   unfolding overSignals line
   formed a o j lo hi = formed-by F R j a (lineWord F R j 0) (line-fits F R accepted j lo hi) (each-at (lines R) _ o j lo hi)
 
-  -- every accepted sheet is over 16 signals
-  pub over-sixteen : T (overSignals F 16 R)
-  unfolding overSignals
-  over-sixteen = each-in (lines R) _ (λ j lo hi. signal-most F R j (lineWord F R j 0) (line-fits F R accepted j lo hi))
+  -- every accepted sheet is over the most signals
+  pub over-most : T (overSignals F signalsMost R)
+  unfolding overSignals line
+  over-most = each-in (lines R) _ (λ j lo hi. signal-most F R j (lineWord F R j 0) (line-fits F R accepted j lo hi))

@@ -1,6 +1,5 @@
 -- The answer of a sheet check.
 use mathlib.Core.Path.{_≡_}
-use Prim.Native.Nat.{ℕ}
 use mathlib.Core.List.{List}
 use Rattle.sheets.specs.Questions.{Refusal, none, Question, firstNo}
 use Rattle.sheets.specs.declared.checks.Check.{Check}

@@ -8,6 +8,7 @@ use lib.ListN.{length}
 use lib.Dec.{leb, ltb, eqb}
 use Rattle.sheets.specs.Format as Format
 use Rattle.sheets.specs.Structures.{Automaton, Line, signal, negation, either, somePath, somePathNot, malformed}
+use Rattle.sheets.specs.Operations.{Operands, oneSignal, linesAbove, automatonWithLines, noOperands, operation}
 use Rattle.sheets.specs.Words.{word, bit, within, each, allOf, anyOf, member, howMany, chain, link}
 use Rattle.sheets.specs.Records.{recordWord}
 use Rattle.sheets.specs.Questions.{Question, ask, firstNo}
@@ -123,19 +124,14 @@ automaton R x = record {
   goes = λ q w q′. anyOf (transitionsOf R q) (λ y. bit (mask R y) w && eqb (transitionTarget R y) q′);
 }
 
--- line j, taken apart by its operation
+-- line j, if its operation is op
 unfoldable pub lineOf : Form → List ℕ → ℕ → ℕ → Line
-unfolding lineWord
-lineOf F R j zero = signal (lineWord F R j 1)
-lineOf F R j (suc zero) = negation (lineWord F R j 1)
-lineOf F R j (suc (suc zero)) = either (lineWord F R j 1) (lineWord F R j 2)
-lineOf F R j (suc (suc (suc zero))) = somePath (lineWord F R j 1) (λ i. lineWord F R j (2 + i))
-lineOf F R j (suc (suc (suc (suc zero)))) = somePathNot (lineWord F R j 1) (λ i. lineWord F R j (2 + i))
-lineOf F R j (suc (suc (suc (suc (suc n))))) = malformed
+unfolding lineWord operation
+lineOf F R j op = operation op .makes (lineWord F R j)
 
 unfoldable pub line : Form → List ℕ → ℕ → Line
 unfolding lineOf lineWord
-line F R j = lineOf F R j (lineWord F R j 0)
+line F R j = lineOf F R j (lineWord F R j Format.operationPlace)
 
 -- ---- condition 1, as a test that is computed (`Cycles` has it in the reader's terms)
 
@@ -258,21 +254,24 @@ unfolding within lineWord unused refersAbove automata variables
 pathFits F R j =
     within 1 (automata R) (lineWord F R j 1) && refersAbove F R j 1 (variables R (lineWord F R j 1)) && unused F R j (2 + variables R (lineWord F R j 1))
 
--- line j, by its operation: a signal number in 1 to 16, or references to lines above it; unused words are zero
-unfoldable pub lineFits : Form → List ℕ → ℕ → ℕ → Bool
+-- the words of line j are such operands, and unused words are zero
+unfoldable pub operandsFit : Form → List ℕ → ℕ → Operands → Bool
 unfolding within lineWord unused refersAbove pathFits
-lineFits F R j zero = within 1 Format.signalsMost (lineWord F R j 1) && unused F R j 2
-lineFits F R j (suc zero) = refersAbove F R j 0 1 && unused F R j 2
-lineFits F R j (suc (suc zero)) = refersAbove F R j 0 2 && unused F R j 3
-lineFits F R j (suc (suc (suc zero))) = pathFits F R j
-lineFits F R j (suc (suc (suc (suc zero)))) = pathFits F R j
-lineFits F R j (suc (suc (suc (suc (suc n))))) = false
+operandsFit F R j oneSignal = within 1 Format.signalsMost (lineWord F R j 1) && unused F R j 2
+operandsFit F R j (linesAbove n) = refersAbove F R j 0 n && unused F R j (1 + n)
+operandsFit F R j automatonWithLines = pathFits F R j
+operandsFit F R j noOperands = false
+
+-- line j, if its operation is op
+unfoldable pub lineFits : Form → List ℕ → ℕ → ℕ → Bool
+unfolding operandsFit operation
+lineFits F R j op = operandsFit F R j (operation op .operands)
 
 -- "Is each operation 0 to 4, each unused word zero, each signal number in 1 to 16, automaton in 1 to k, and line referred to from 1 to
 -- one below its own?"
 unfoldable pub q15 : Form → List ℕ → Bool
 unfolding each lines lineFits lineWord
-q15 F R = each (lines R) (λ j. lineFits F R j (lineWord F R j 0))
+q15 F R = each (lines R) (λ j. lineFits F R j (lineWord F R j Format.operationPlace))
 
 -- the questions headed Rules, in order: those of the records, those of the automata, and that of the lines
 unfoldable pub recordQuestions : Form → List ℕ → List Question
@@ -292,7 +291,16 @@ unfoldable pub ruleRefusal : Form → List ℕ → ℕ
 unfolding firstNo ruleQuestions
 ruleRefusal F R = firstNo (ruleQuestions F R) .number
 
+-- a line that is a signal has a number of at most a
+unfoldable pub signalMost : ℕ → Line → Bool
+signalMost a (signal i) = leb i a
+signalMost a (negation j) = true
+signalMost a (either i j) = true
+signalMost a (somePath x arg) = true
+signalMost a (somePathNot x arg) = true
+signalMost a malformed = true
+
 -- question 16: the sheet's signal numbers are at most a
 unfoldable pub overSignals : Form → ℕ → List ℕ → Bool
-unfolding each lines lineWord
-overSignals F a R = each (lines R) (λ j. not (eqb (lineWord F R j 0) 0) || leb (lineWord F R j 1) a)
+unfolding each lines line signalMost
+overSignals F a R = each (lines R) (λ j. signalMost a (line F R j))

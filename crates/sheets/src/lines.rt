@@ -3,20 +3,41 @@ ghost use mathlib.Core.Path.{_≡_};
 ghost use mathlib.Core.List.{_∷_, []};
 ghost use Prim.Native.Nat.{ℕ, _+_, _-_, _*_, _^_, _<_, _≤_};
 ghost use Rattle.sheets.specs.Questions.{ask, firstNo};
+ghost use lib.Dec.{T};
+ghost use Rattle.sheets.specs.Operations.{oneSignal, linesAbove};
 ghost use Rattle.sheets.specs.Rules as Rules;
 ghost use Rattle.sheets.specs.Lines as Lines;
 use crate::format;
 use crate::rules;
 use crate::words;
 
-// A line by its operation: a signal, "not" and "or" of lines above it, "on some path A" and "on some path not A" of an automaton,
-// whose variables' lines stand at words 2 to 1 + v of the line's record.
+// The operations.
+pub const SIGNAL: u16 = 0;
+
+pub const NEGATION: u16 = 1;
+
+pub const EITHER: u16 = 2;
+
+pub const SOME_PATH: u16 = 3;
+
+pub const SOME_PATH_NOT: u16 = 4;
+
+// An automaton with the lines of the variables that it may have; what stands past those that it has is 0.
+pub struct PathLine {
+    pub automaton: u16,
+    pub first: u16,
+    pub second: u16,
+    pub third: u16,
+    pub fourth: u16,
+}
+
+// A line by its operation: a signal, "not" and "or" of lines above it, "on some path A" and "on some path not A".
 pub enum Line {
     Signal(u16),
     Negation(u16),
     Either(u16, u16),
-    SomePath(u16),
-    SomePathNot(u16),
+    SomePath(PathLine),
+    SomePathNot(PathLine),
 }
 
 pub enum Decoded {
@@ -60,28 +81,22 @@ fn refers_above(r: &[u16], j: u16, c: u16, n: u16) -> bool
     true
 }
 
-// Question 15 of the words after the operation of a signal line.
+// Question 15 of a signal's words.
 fn signal_fits(r: &[u16], j: u16) -> bool
-    ensures { λ b. ⌜ b ≡ Rules.lineFits Rules.lent (now (r .entry)) j 0 ⌝ }
+    ensures { λ b. ⌜ b ≡ Rules.operandsFit Rules.lent (now (r .entry)) j oneSignal ⌝ }
 {
     words::within(1, format::SIGNALS_MOST, rules::line_word(r, j, 1)) && unused(r, j, 2)
 }
 
-// Question 15 of the words after the operation of a "not".
-fn negation_fits(r: &[u16], j: u16) -> bool
-    ensures { λ b. ⌜ b ≡ Rules.lineFits Rules.lent (now (r .entry)) j 1 ⌝ }
+// Question 15 of the words of an operation on n lines above.
+fn lines_fit(r: &[u16], j: u16, n: u16) -> bool
+    requires { ⌜ n ≤ 4 ⌝ }
+    ensures { λ b. ⌜ b ≡ Rules.operandsFit Rules.lent (now (r .entry)) j (linesAbove n) ⌝ }
 {
-    refers_above(r, j, 0, 1) && unused(r, j, 2)
+    refers_above(r, j, 0, n) && unused(r, j, 1 + n)
 }
 
-// Question 15 of the words after the operation of an "or".
-fn either_fits(r: &[u16], j: u16) -> bool
-    ensures { λ b. ⌜ b ≡ Rules.lineFits Rules.lent (now (r .entry)) j 2 ⌝ }
-{
-    refers_above(r, j, 0, 2) && unused(r, j, 3)
-}
-
-// Question 15 of the words after the operation of a path line.
+// Question 15 of a path line's words.
 fn path_fits(r: &[u16], j: u16) -> bool
     ensures { λ b. ⌜ b ≡ Rules.pathFits Rules.lent (now (r .entry)) j ⌝ }
 {
@@ -96,37 +111,62 @@ fn path_fits(r: &[u16], j: u16) -> bool
     refers_above(r, j, 1, v) && unused(r, j, 2 + v)
 }
 
+// The automaton and the lines that the words of line j name.
+fn path_line(r: &[u16], j: u16) -> PathLine
+    ensures { λ p. ⌜ p ≡ Lines.pathLine (Rules.lineWord Rules.lent (now (r .entry)) j 1) (λ i. Rules.lineWord Rules.lent (now (r .entry)) j (2 + i)) ⌝ }
+{
+    let automaton = rules::line_word(r, j, 1);
+    let first = rules::line_word(r, j, 2);
+    let second = rules::line_word(r, j, 3);
+    let third = rules::line_word(r, j, 4);
+    let fourth = rules::line_word(r, j, 5);
+    PathLine {
+        automaton,
+        first,
+        second,
+        third,
+        fourth,
+    }
+}
+
+// The lines of a path line's variables, in their order.
+pub fn arguments(p: PathLine) -> [u16; format::VARIABLES]
+    ensures { λ a. ⌜ a ≡ Lines.arguments p ⌝ }
+{
+    [p.first, p.second, p.third, p.fourth]
+}
+
 // Line j taken apart; malformed where question 15 says no to it.
 pub fn decode(r: &[u16], j: u16) -> Decoded
     ensures { λ d. ⌜ d ≡ Lines.decoded (now (r .entry)) j ⌝ }
 {
-    let op = rules::line_word(r, j, 0);
-    let first = rules::line_word(r, j, 1);
+    let op = rules::line_word(r, j, format::OPERATION);
     match op {
-        0 => {
+        SIGNAL => {
             if signal_fits(r, j) {
-                return Decoded::Formed(Line::Signal(first));
+                return Decoded::Formed(Line::Signal(rules::line_word(r, j, 1)));
             }
         }
-        1 => {
-            if negation_fits(r, j) {
-                return Decoded::Formed(Line::Negation(first));
+        NEGATION => {
+            if lines_fit(r, j, 1) {
+                return Decoded::Formed(Line::Negation(rules::line_word(r, j, 1)));
             }
         }
-        2 => {
-            if either_fits(r, j) {
+        EITHER => {
+            if lines_fit(r, j, 2) {
+                let first = rules::line_word(r, j, 1);
                 let second = rules::line_word(r, j, 2);
                 return Decoded::Formed(Line::Either(first, second));
             }
         }
-        3 => {
+        SOME_PATH => {
             if path_fits(r, j) {
-                return Decoded::Formed(Line::SomePath(first));
+                return Decoded::Formed(Line::SomePath(path_line(r, j)));
             }
         }
-        4 => {
+        SOME_PATH_NOT => {
             if path_fits(r, j) {
-                return Decoded::Formed(Line::SomePathNot(first));
+                return Decoded::Formed(Line::SomePathNot(path_line(r, j)));
             }
         }
         _ => {}
@@ -150,18 +190,34 @@ pub fn lines_refusal(r: &[u16]) -> u16
     0
 }
 
-// Question 16: the signal numbers are at most a.
+// A signal's number is at most a, and another line has none.
+fn signal_most(line: Line, a: u16) -> bool
+    ensures { λ b. ⌜ b ≡ Lines.mostOf a line ⌝ }
+{
+    match line {
+        Line::Signal(i) => i <= a,
+        Line::Negation(_) => true,
+        Line::Either(_, _) => true,
+        Line::SomePath(_) => true,
+        Line::SomePathNot(_) => true,
+    }
+}
+
+// Question 16, of a sheet that question 15 accepts: the signal numbers are at most a.
 pub fn over_signals(r: &[u16], a: u16) -> bool
+    requires { ⌜ T (Rules.q15 Rules.lent (now r)) ⌝ }
     ensures { λ b. ⌜ b ≡ Rules.overSignals Rules.lent a (now (r .entry)) ⌝ }
 {
     let l = rules::lines(r);
     let mut j: u16 = 0;
     while j < l {
         j += 1;
-        if rules::line_word(r, j, 0) == 0 {
-            if rules::line_word(r, j, 1) > a {
-                return false;
-            }
+        let decoded = decode(r, j);
+        let Decoded::Formed(line) = decoded else {
+            return false;
+        };
+        if !signal_most(line, a) {
+            return false;
         }
     }
     true

@@ -14,8 +14,9 @@ use Rattle.sheets.proofs.Tests.{dec-test, dec-fun, dec-sum}
 use Rattle.sheets.proofs.Search.{dec-each}
 use Rattle.sheets.proofs.AcceptedMachine.{edge-stays, start-node}
 use Rattle.sheets.proofs.AcceptedRule.{some-line}
-use Rattle.sheets.proofs.FormedLines.{Formed, formed, over-sixteen}
+use Rattle.sheets.proofs.FormedLines.{Formed, formed, over-most}
 use Rattle.sheets.proofs.PositionedStates.{positioned-sound, positioned-named}
+use Rattle.sheets.specs.Format.{signalsMost}
 use Rattle.truth.specs.Truth.{Truths, SomePath, Means, TrueAt, Keeps}
 use Rattle.truth.specs.Product.{turned, good}
 use Rattle.truth.proofs.Valuations.{valued}
@@ -42,7 +43,7 @@ module _ (F : Form) (M R : List ℕ) (machine-ok : machineRefusal M ≡ 0) (rule
         Dec·of-iff (Iff·symm (path-by-position F R rule-ok x (f .0 .0) (f .0 .1) (kripke M) P arg exchanged s))
         (path-decided (positioned-sound F R rule-ok x (f .0 .0) (f .0 .1)) fin exchanged s (lo, hi))
 
-    line-decided : (l : Line) → Formed 16 (automata R) (automaton R) j l → Dec (Means (kripke M) (automaton R) P l s)
+    line-decided : (l : Line) → Formed signalsMost (automata R) (automaton R) j l → Dec (Means (kripke M) (automaton R) P l s)
     unfolding Formed Means turned
     line-decided (signal i) f = dec-test (kripke M .signal i s)
     line-decided (negation i) f = Dec·not (d i (f .0) (f .1) s lo hi)
@@ -58,7 +59,7 @@ module _ (F : Form) (M R : List ℕ) (machine-ok : machineRefusal M ≡ 0) (rule
   decided (suc f) j le lo hi s a b =
       Dec·of-iff (Iff·symm (truth-recursion F M R rule-ok j s lo hi))
       (line-decided (TrueAt F M R) j (λ i l k. decided f i (omega arith) l (omega arith)) s a b (line F R j)
-      (formed F R rule-ok 16 (over-sixteen F R rule-ok) j lo hi))
+      (formed F R rule-ok signalsMost (over-most F R rule-ok) j lo hi))
 
   pub truth-decided : (j s : ℕ) → 1 ≤ j → j ≤ lines R → 1 ≤ s → s ≤ nodes M → Dec (TrueAt F M R j s)
   truth-decided j s lo hi a b = decided j j (omega arith) lo hi s a b

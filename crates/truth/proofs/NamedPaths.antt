@@ -11,8 +11,8 @@ use Rattle.sheets.specs.Rules.{Form, automata, automaton, ruleRefusal}
 use Rattle.sheets.specs.Sound.{OneTo, Sound}
 use Rattle.sheets.specs.Positioned.{stateOf, positioned}
 use Rattle.sheets.proofs.PositionedStates.{Named, positioned-sound, positioned-named}
-use Rattle.truth.specs.Truth.{Truths, Valuation, SomePath}
-use Rattle.truth.specs.Lists.{Step, Lasso}
+use Rattle.truth.specs.Truth.{Truths, SomePath}
+use Rattle.truth.specs.Lists.{AutomatonStep, Lasso}
 use Rattle.truth.specs.Product.{turned, good}
 
 -- B is A by position; what is good of A is good of B
@@ -66,7 +66,7 @@ module _ {A B : Automaton} {n : ℕ} {name : ℕ → ℕ} (names : Named A B n n
 
   -- ---- a list
 
-  step-named : (s q q′ : ℕ) → Step B above arg s q q′ → Step A above arg s (name q) (name q′)
+  step-named : (s q q′ : ℕ) → AutomatonStep B above arg s q q′ → AutomatonStep A above arg s (name q) (name q′)
   step-named s q q′ st =
       record { valuation = st .valuation; values = rw (names .variables) (st .values); goes = names .goes q (st .valuation) q′ (st .goes) }
 

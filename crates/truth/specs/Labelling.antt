@@ -12,12 +12,13 @@ use Rattle.sheets.specs.Questions.{Question, ask}
 use Rattle.sheets.specs.Machine.{nodes, kripke}
 use Rattle.sheets.specs.Rules.{lent, lines}
 use Rattle.sheets.specs.Sheets.{sheetQuestions}
+use Rattle.truth.specs.Sizes.{rowWordBits, rowWords, membersMost, lowAt, highAt}
 use Rattle.truth.specs.Truth.{Truths, TrueAt}
 
--- node s in the row of line j: two words of 64 bits a line
+-- node s in the row of line j: a row a line, node s at bit s - 1 of its words
 unfoldable pub rowBit : List ℕ → ℕ → ℕ → Bool
 unfolding word bit
-rowBit rows j s = bit (word rows (2 * (j - 1) + (s - 1) / 64)) ((s - 1) % 64)
+rowBit rows j s = bit (word rows (lowAt (j - 1) + (s - 1) / rowWordBits)) ((s - 1) % rowWordBits)
 
 -- the truths that the bits of the rows say
 abbrev pub rowTruths : List ℕ → Truths
@@ -26,7 +27,7 @@ rowTruths rows j s = T (rowBit rows j s)
 -- the ones in the row of line j
 unfoldable pub rowOnes : List ℕ → ℕ → ℕ
 unfolding word ones
-rowOnes rows j = ones (word rows (2 * (j - 1))) + ones (word rows (2 * (j - 1) + 1))
+rowOnes rows j = ones (word rows (lowAt (j - 1))) + ones (word rows (highAt (j - 1)))
 
 -- of the numbers 1 to n so many have a property
 pub data HowMany (P : ℕ → Type 0) : ℕ → ℕ → Type 0 where
@@ -42,14 +43,14 @@ percent c n = (200 * c + n) / (2 * n)
 -- of 64 bits?"
 unfoldable pub labelQuestions : List ℕ → List ℕ → ℕ → List Question
 unfolding sheetQuestions lines
-labelQuestions M R space = sheetQuestions M R ++ (ask 17 0 (leb (2 * lines R) space) ∷ [])
+labelQuestions M R space = sheetQuestions M R ++ (ask 17 0 (leb (rowWords * lines R) space) ∷ [])
 
 -- `after` is `before` with the rows of the lines 1 to k of R on M
 pub record RowsTo (M R : List ℕ) (k : ℕ) (before after : List ℕ) : Type 0 where
   pub size : length after ≡ length before
   pub truth : (j s : ℕ) → 1 ≤ j → j ≤ k → 1 ≤ s → s ≤ nodes M → T (rowBit after j s) ↔ TrueAt lent M R j s
-  pub clear : (j s : ℕ) → 1 ≤ j → j ≤ k → nodes M < s → s ≤ 128 → rowBit after j s ≡ false
-  pub rest : (i : ℕ) → 2 * k ≤ i → word after i ≡ word before i
+  pub clear : (j s : ℕ) → 1 ≤ j → j ≤ k → nodes M < s → s ≤ membersMost → rowBit after j s ≡ false
+  pub rest : (i : ℕ) → rowWords * k ≤ i → word after i ≡ word before i
 
 -- of all lines
 abbrev pub Rows : List ℕ → List ℕ → List ℕ → List ℕ → Type 0

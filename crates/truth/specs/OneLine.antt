@@ -13,7 +13,7 @@ use Rattle.sheets.specs.Structures.{Automaton}
 use Rattle.sheets.specs.Rules.{lent, lines, automata, automaton, line, ruleRefusal}
 use Rattle.sheets.specs.Positioned.{positioned}
 use Rattle.sheets.specs.declared.position.ByPosition.{ByPosition}
-use Rattle.truth.specs.Sizes.{rowWords, membersMost}
+use Rattle.truth.specs.Sizes.{membersMost, rowWords}
 use Rattle.truth.specs.Truth.{Means, SomePath}
 use Rattle.truth.specs.Product.{argument, good, Refers, Allowed, GoodRows}
 use Rattle.truth.specs.Pairs.{edgeIn, Transposed, Greatest, Least}

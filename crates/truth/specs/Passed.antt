@@ -1,8 +1,10 @@
 -- What the crate above cites of the sheet reader's definitions, passed on.
 pub use Rattle.sheets.specs.Questions.{Refusal, Question, ask}
+pub use Rattle.sheets.specs.Format.{nodesMost, signalsMost, linesMost, lineWords, nextHead, linesWritten, ruleSpace}
+pub use Rattle.sheets.specs.Operations.{signalOperation, negationOperation, eitherOperation, somePathOperation}
 pub use Rattle.sheets.specs.Structures.{Kripke, Automaton, Line, signal, negation, either, somePath, somePathNot, malformed}
 unfoldable pub use Rattle.sheets.specs.Questions.{none, firstNo}
 unfoldable pub use Rattle.sheets.specs.Words.{word, bit, each, within, anyOf, chain}
 unfoldable pub use Rattle.sheets.specs.Machine.{kripke, nodes, signals, edges, signalAt, startFlag, target, edgesOf, machineQuestions, machineRefusal}
-unfoldable pub use Rattle.sheets.specs.Rules.{lent, lifted, automata, states, transitions, variables, lines, lineWord, automaton, line, lineOf, unused, refersAbove, pathFits, lineFits, ruleRefusal, overSignals, q7, q8, q9, q10, q11, q12, q13, q14, q15}
+unfoldable pub use Rattle.sheets.specs.Rules.{lent, lifted, automata, states, transitions, variables, lines, lineWord, automaton, line, lineOf, unused, refersAbove, pathFits, lineFits, ruleRefusal, signalMost, overSignals, q7, q8, q9, q10, q11, q12, q13, q14, q15}
 pub use Rattle.sheets.specs.Worked.{M1, M2, M3, M5, M6, MixedSheet, PartialSheet, SelfLinked, ExtraSignal}

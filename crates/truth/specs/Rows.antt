@@ -1,4 +1,4 @@
--- Rows: a set of nodes from 1 to 128 in two words of 64 bits, node s at bit s - 1 of both together.
+-- Rows: a set of nodes, from 1, in two words, node s at bit s - 1 of both together.
 use mathlib.Core.Path.{_≡_}
 use Prim.Native.Nat.{ℕ, zero, suc, _+_, _-_, _≤_}
 use mathlib.Core.Bool.{Bool, true, false, _&&_}
@@ -37,7 +37,7 @@ unfoldable pub leadsInto : List ℕ → (ℕ → Bool) → ℕ → Bool
 unfolding anyOf edgesOf target
 leadsInto M p s = anyOf (edgesOf M s) (λ x. p (target M x))
 
--- e is a mark from 1 to 128 of a node from 1 to 128 that some edge of node s leads to
+-- e is a mark that a row may have, of a node that a row may have and that some edge of node s leads to
 unfoldable pub marksInto : List ℕ → List ℕ → ℕ → ℕ → Bool
 unfolding within leadsInto
 marksInto M mark s e = within 1 membersMost e && leadsInto M (λ t. within 1 membersMost t && eqb (getD mark t 0) e) s

@@ -1,6 +1,6 @@
 -- The sizes of rows and tables, and where things stand in them. The code has them in sizes.rt.
-use Prim.Native.Nat.{ℕ, _+_, _-_, _*_}
-use Rattle.sheets.specs.Format.{nodesMost, chainedMost}
+use Prim.Native.Nat.{ℕ, _+_, _-_, _*_, _^_}
+use Rattle.sheets.specs.Format.{nodesMost, linesMost, variablesMost, chainedMost}
 
 -- the positions on an automaton's chain, from 0
 abbrev pub positionsMost : ℕ
@@ -47,3 +47,11 @@ pairsMost = positionsMost * nodesMost
 
 abbrev pub pairAt : ℕ → ℕ → ℕ
 pairAt p s = nodesMost * p + (s - 1)
+
+-- the valuations of an automaton's variables, from 0; they are no more than positions, so that such a table has a row for each
+abbrev pub valuationsMost : ℕ
+valuationsMost = 2 ^ variablesMost
+
+-- ---- the space in which a path call labels the lines above the asked one: a row a line
+abbrev pub linesWords : ℕ
+linesWords = rowWords * linesMost

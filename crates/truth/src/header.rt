@@ -1,7 +1,27 @@
-// What the crate above asks of a machine sheet: the question that refuses it, its nodes, its signals.
+// What the crate above asks of a machine sheet: the question that refuses it, its nodes, its signals; and what it takes of the format.
 ghost use mathlib.Core.Path.{_≡_};
 ghost use Rattle.sheets.specs.Machine as Machine;
+use sheets::format;
+use sheets::lines;
 use sheets::machine;
+
+// Passed on: the most nodes, the words of a line record, the words of a written rule before its lines, and its lines for each node.
+pub const NODES: usize = format::NODES;
+
+pub const LINE_WORDS: usize = format::LINE_WORDS as usize;
+
+pub const NEXT_HEAD: usize = format::NEXT_HEAD;
+
+pub const LINES_A_NODE: usize = format::LINES_A_NODE;
+
+// The operations of a written rule's lines.
+pub const SIGNAL: u16 = lines::SIGNAL;
+
+pub const NEGATION: u16 = lines::NEGATION;
+
+pub const EITHER: u16 = lines::EITHER;
+
+pub const SOME_PATH: u16 = lines::SOME_PATH;
 
 // The number of the machine question that refuses the sheet, 0 if none does.
 pub fn machine_refusal(m: &[u16]) -> u16

@@ -1,17 +1,20 @@
 // Labelling: the rows of a whole rule sheet on a machine, whether the rule is kept, and the count and percent of its true nodes.
 ghost use mathlib.Core.Path.{_≡_};
 ghost use mathlib.Core.Logic.{_↔_};
-ghost use Prim.Native.Nat.{_+_, _*_, _<_, _≤_};
+ghost use Prim.Native.Nat.{_*_, _≤_};
 ghost use lib.ListN.{length};
 ghost use lib.Dec.{T};
 ghost use Rattle.sheets.specs.Questions.{firstNo};
+ghost use Rattle.sheets.specs.Format.{nodesMost};
 ghost use Rattle.sheets.specs.Machine as Machine;
 ghost use Rattle.sheets.specs.Rules as Rules;
+ghost use Rattle.truth.specs.Sizes.{rowWords, membersMost};
 ghost use Rattle.truth.specs.Rows.{rowHas};
 ghost use Rattle.truth.specs.Labelling as Labelling;
 ghost use Rattle.truth.specs.LabelAnswers.{LabelAnswer};
 use crate::lines::row_of_line;
 use crate::rows::Row;
+use crate::sizes::ROW_WORDS;
 use crate::structure;
 use crate::tables::line_row;
 use crate::tables::set_line_row;
@@ -40,7 +43,7 @@ fn label_refusal(m: &[u16], r: &[u16], space: usize) -> u16
     if sheets != 0 {
         return sheets;
     }
-    if space < 2 * (rules::lines(r) as usize) {
+    if space < ROW_WORDS * (rules::lines(r) as usize) {
         return 17;
     }
     0
@@ -48,7 +51,7 @@ fn label_refusal(m: &[u16], r: &[u16], space: usize) -> u16
 
 // Writes the row of each line from the first to the given one.
 pub fn label_lines(m: &[u16], r: &[u16], rows: &mut [u64], upto: u16)
-    requires { ⌜ (Machine.machineRefusal (now m) ≡ 0) × ((Rules.ruleRefusal Rules.lent (now r) ≡ 0) × ((upto ≤ Rules.lines (now r)) × (2 * upto ≤ length (now rows)))) ⌝ }
+    requires { ⌜ (Machine.machineRefusal (now m) ≡ 0) × ((Rules.ruleRefusal Rules.lent (now r) ≡ 0) × ((upto ≤ Rules.lines (now r)) × (rowWords * upto ≤ length (now rows)))) ⌝ }
     ensures { λ u. ⌜ Labelling.RowsTo (now (m .entry)) (now (r .entry)) upto (now (rows .entry)) (now (rows .exit)) ⌝ }
 {
     let next = structure::successors(m);
@@ -64,7 +67,7 @@ pub fn label_lines(m: &[u16], r: &[u16], rows: &mut [u64], upto: u16)
 
 // Whether the start nodes are all in the row.
 fn keeps(m: &[u16], last: Row) -> bool
-    requires { ⌜ Machine.nodes (now m) ≤ 128 ⌝ }
+    requires { ⌜ Machine.nodes (now m) ≤ nodesMost ⌝ }
     ensures { λ b. ⌜ T b ↔ Labelling.StartsIn (now (m .entry)) (rowHas last) ⌝ }
 {
     structure::start_row(m).difference(last).is_empty()
@@ -72,7 +75,7 @@ fn keeps(m: &[u16], last: Row) -> bool
 
 // The whole percent of c among n, a half rounded up.
 fn percent(c: u32, n: u16) -> u32
-    requires { ⌜ (c ≤ 128) × (1 ≤ n) ⌝ }
+    requires { ⌜ (c ≤ membersMost) × (1 ≤ n) ⌝ }
     ensures { λ p. ⌜ p ≡ Labelling.percent c n ⌝ }
 {
     (200 * c + n as u32) / (2 * n as u32)

@@ -8,7 +8,7 @@ ghost use Rattle.sheets.specs.Words.{within};
 ghost use Rattle.sheets.specs.Machine as Machine;
 ghost use Rattle.sheets.specs.Structures.{Automaton};
 ghost use Rattle.sheets.specs.Tabled.{Tabled};
-ghost use Rattle.truth.specs.Sizes.{rowWords, membersMost, tableWords};
+ghost use Rattle.truth.specs.Sizes.{membersMost, rowWords, tableWords};
 ghost use Rattle.truth.specs.Rows.{rowHas, rowsHas};
 ghost use Rattle.truth.specs.Pairs.{NoRow, NoTime};
 ghost use Rattle.truth.specs.Product.{argument};
@@ -17,7 +17,9 @@ use crate::growth::grow;
 use crate::positions;
 use crate::product;
 use crate::rows::Row;
-use crate::sizes;
+use crate::sizes::PAIRS;
+use crate::sizes::SET_WORDS;
+use crate::sizes::TABLE_WORDS;
 use crate::structure;
 use crate::tables::line_row;
 use crate::trimming::trim;
@@ -30,8 +32,8 @@ use sheets::position::ByPosition;
 
 // The sets of pairs of a path line: the largest lasting set of good pairs, and the pairs that reach it.
 struct Sets {
-    lasting: [u64; sizes::SET_WORDS],
-    reached: [u64; sizes::SET_WORDS],
+    lasting: [u64; SET_WORDS],
+    reached: [u64; SET_WORDS],
 }
 
 // Solves line j for an automaton by position, with accepting and non-accepting exchanged for operation 4. Where the automaton may go is
@@ -39,13 +41,13 @@ struct Sets {
 fn solve_with(
     m: &[u16],
     r: &[u16],
-    next: &[u64; sizes::TABLE_WORDS],
-    back: &[u64; sizes::TABLE_WORDS],
+    next: &[u64; TABLE_WORDS],
+    back: &[u64; TABLE_WORDS],
     rows: &[u64],
     j: u16,
     a: ByPosition,
     exchanged: bool,
-    allow: &mut [u64; sizes::TABLE_WORDS],
+    allow: &mut [u64; TABLE_WORDS],
     times: &mut [u16],
 ) -> Sets
     requires { ⌜ Solvable (now m) (now next) (now back) (now rows) (argument (now r) j) a × (length (now allow) ≡ tableWords) × ((p : ℕ) → NoRow (now allow) p) × NoTime (now times) ⌝ }
@@ -53,8 +55,8 @@ fn solve_with(
 {
     let all = structure::node_row(machine::nodes(m));
     let t = a.count;
-    let mut into = [0u64; sizes::SET_WORDS];
-    let mut onto = [0u64; sizes::SET_WORDS];
+    let mut into = [0u64; SET_WORDS];
+    let mut onto = [0u64; SET_WORDS];
     product::allow_table(
         r,
         rows,
@@ -78,18 +80,18 @@ fn solve_with(
 
 // The tables of a path line, solved.
 pub struct Solved {
-    pub allow: [u64; sizes::TABLE_WORDS],
-    pub lasting: [u64; sizes::SET_WORDS],
-    pub reached: [u64; sizes::SET_WORDS],
-    pub times: [u16; sizes::PAIRS],
+    pub allow: [u64; TABLE_WORDS],
+    pub lasting: [u64; SET_WORDS],
+    pub reached: [u64; SET_WORDS],
+    pub times: [u16; PAIRS],
 }
 
 // Solves line j with times, by which a path is found.
 pub fn solve(
     m: &[u16],
     r: &[u16],
-    next: &[u64; sizes::TABLE_WORDS],
-    back: &[u64; sizes::TABLE_WORDS],
+    next: &[u64; TABLE_WORDS],
+    back: &[u64; TABLE_WORDS],
     rows: &[u64],
     j: u16,
     a: ByPosition,
@@ -98,8 +100,8 @@ pub fn solve(
     requires { ⌜ Solvable (now m) (now next) (now back) (now rows) (argument (now r) j) a ⌝ }
     ensures { λ s. ⌜ ((A : Automaton) (t : ℕ) (name : ℕ → ℕ) → Tabled A t name a → SolvedLine (now (m .entry)) A t (now (next .entry)) (now (rows .entry)) (argument (now (r .entry)) j) exchanged (s .allow) (s .lasting) (s .reached) (s .times)) ⌝ }
 {
-    let mut allow = [0u64; sizes::TABLE_WORDS];
-    let mut times = [0u16; sizes::PAIRS];
+    let mut allow = [0u64; TABLE_WORDS];
+    let mut times = [0u16; PAIRS];
     let sets = solve_with(
         m,
         r,
@@ -126,8 +128,8 @@ pub fn solve(
 fn path_row(
     m: &[u16],
     r: &[u16],
-    next: &[u64; sizes::TABLE_WORDS],
-    back: &[u64; sizes::TABLE_WORDS],
+    next: &[u64; TABLE_WORDS],
+    back: &[u64; TABLE_WORDS],
     rows: &[u64],
     j: u16,
     x: u16,
@@ -137,7 +139,7 @@ fn path_row(
     ensures { λ row. ⌜ PathRow (now (m .entry)) (now (r .entry)) (now (rows .entry)) j x exchanged (rowHas row) ⌝ }
 {
     let a = position::by_position(r, x);
-    let mut allow = [0u64; sizes::TABLE_WORDS];
+    let mut allow = [0u64; TABLE_WORDS];
     let mut times = [0u16; 1];
     let sets = solve_with(
         m,
@@ -178,8 +180,8 @@ fn either_row(m: &[u16], rows: &[u64], i: u16, k: u16) -> Row
 pub fn row_of_line(
     m: &[u16],
     r: &[u16],
-    next: &[u64; sizes::TABLE_WORDS],
-    back: &[u64; sizes::TABLE_WORDS],
+    next: &[u64; TABLE_WORDS],
+    back: &[u64; TABLE_WORDS],
     rows: &[u64],
     j: u16,
 ) -> Row
@@ -194,7 +196,7 @@ pub fn row_of_line(
         Line::Signal(i) => structure::signal_row(m, i),
         Line::Negation(k) => negation_row(m, rows, k),
         Line::Either(i, k) => either_row(m, rows, i, k),
-        Line::SomePath(x) => path_row(m, r, next, back, rows, j, x, false),
-        Line::SomePathNot(x) => path_row(m, r, next, back, rows, j, x, true),
+        Line::SomePath(p) => path_row(m, r, next, back, rows, j, p.automaton, false),
+        Line::SomePathNot(p) => path_row(m, r, next, back, rows, j, p.automaton, true),
     }
 }

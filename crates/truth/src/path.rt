@@ -1,23 +1,25 @@
 // The path call: a list of nodes and states that shows a path for a true path line at a node.
 ghost use mathlib.Core.Path.{_≡_};
 ghost use mathlib.Core.Bool.{_&&_};
-ghost use Prim.Native.Nat.{ℕ, _+_, _-_, _*_, min, _<_, _≤_};
+ghost use Prim.Native.Nat.{ℕ, _-_, min, _<_, _≤_};
 ghost use mathlib.Core.List.{List, _++_};
 ghost use lib.ListN.{length, getD, take, drop};
 ghost use Rattle.sheets.specs.Questions.{firstNo};
 ghost use Rattle.sheets.specs.Words.{within};
 ghost use Rattle.sheets.specs.Machine as Machine;
 ghost use Rattle.sheets.specs.Rules as Rules;
+ghost use Rattle.truth.specs.Sizes.{positionsMost, membersMost, tableRows, pairsMost};
 ghost use Rattle.truth.specs.OneLine.{Ready, PathReady};
 ghost use Rattle.truth.specs.Rows.{rowsHas};
-ghost use Rattle.truth.specs.Lists.{Lasso};
-ghost use Rattle.truth.specs.Trails.{placed};
 ghost use Rattle.truth.specs.Path as Path;
 ghost use Rattle.truth.specs.PathAnswers.{lengthOf, MadeFor, PathAnswer};
 ghost use Rattle.truth.specs.Shows.{ShowsLine};
 use crate::labelling::label_lines;
 use crate::lines::solve;
 use crate::positions::load;
+use crate::sizes::LINES_WORDS;
+use crate::sizes::PAIRS;
+use crate::sizes::TABLE_WORDS;
 use crate::structure;
 use crate::trail::trace;
 use sheets::checks;
@@ -37,9 +39,9 @@ pub enum Shown {
 // A list that was made, and the answer; a node fits a byte. The answer stands between the arrays: so each of them is moved by itself,
 // and the stack needs no copy of the whole.
 pub struct Made {
-    pub nodes: [u8; 2048],
+    pub nodes: [u8; PAIRS],
     pub answer: Shown,
-    pub states: [u16; 2048],
+    pub states: [u16; PAIRS],
 }
 
 // Line 0 means the last line.
@@ -89,8 +91,8 @@ fn q19(m: &[u16], r: &[u16], line: u16, room: usize) -> bool
 }
 
 // The states at the first `count` positions of the list, by their record numbers, in the positions' place.
-fn named(states: [u16; format::CHAINED], positions: [u16; 2048], count: u16) -> [u16; 2048]
-    requires { ⌜ (count ≤ 2048) × ((i : ℕ) → i < count → getD positions i 0 < 16) ⌝ }
+fn named(states: [u16; format::CHAINED], positions: [u16; PAIRS], count: u16) -> [u16; PAIRS]
+    requires { ⌜ (count ≤ pairsMost) × ((i : ℕ) → i < count → getD positions i 0 < positionsMost) ⌝ }
     ensures { λ a. ⌜ ((i : ℕ) → i < count → getD a i 0 ≡ getD states (getD positions i 0) 0) ⌝ }
 {
     let mut out = positions;
@@ -107,8 +109,8 @@ fn named(states: [u16; format::CHAINED], positions: [u16; 2048], count: u16) -> 
 fn show(
     m: &[u16],
     r: &[u16],
-    next: &[u64; 512],
-    back: &[u64; 512],
+    next: &[u64; TABLE_WORDS],
+    back: &[u64; TABLE_WORDS],
     rows: &[u64],
     j: u16,
     x: u16,
@@ -125,9 +127,9 @@ fn show(
     let row = load(&solved.reached, 0);
     if !row.has(s) {
         return Made {
-            nodes: [0u8; 2048],
+            nodes: [0u8; PAIRS],
             answer: Shown::NoPath,
-            states: [0u16; 2048],
+            states: [0u16; PAIRS],
         };
     }
     let n = machine::nodes(m);
@@ -159,14 +161,14 @@ fn show(
 fn show_with(
     m: &[u16],
     r: &[u16],
-    next: &[u64; 512],
+    next: &[u64; TABLE_WORDS],
     rows: &[u64],
     j: u16,
     x: u16,
     exchanged: bool,
     s: u16,
 ) -> Made
-    requires { ⌜ (Machine.machineRefusal (now m) ≡ 0) × ((Rules.ruleRefusal Rules.lent (now r) ≡ 0) × (((s t : ℕ) → 1 ≤ s → s ≤ Machine.nodes (now m) → s ≤ 256 → rowsHas (now next) (s - 1) t ≡ (within 1 128 t && Machine.kripke (now m) .edge s t)) × ((next back : List ℕ) → Ready (now m) (now r) next back → (PathReady (now m) (now r) next back (now rows) j x) × ((1 ≤ s) × (s ≤ Machine.nodes (now m)))))) ⌝ }
+    requires { ⌜ (Machine.machineRefusal (now m) ≡ 0) × ((Rules.ruleRefusal Rules.lent (now r) ≡ 0) × (((s t : ℕ) → 1 ≤ s → s ≤ Machine.nodes (now m) → s ≤ tableRows → rowsHas (now next) (s - 1) t ≡ (within 1 membersMost t && Machine.kripke (now m) .edge s t)) × ((next back : List ℕ) → Ready (now m) (now r) next back → (PathReady (now m) (now r) next back (now rows) j x) × ((1 ≤ s) × (s ≤ Machine.nodes (now m)))))) ⌝ }
     ensures { λ a. ⌜ ShowsLine (now (m .entry)) (now (r .entry)) (now (rows .entry)) j x exchanged s (a .nodes) (a .states) (a .answer) ⌝ }
 {
     let back = structure::predecessors(next, machine::nodes(m));
@@ -189,16 +191,16 @@ fn make(m: &[u16], r: &[u16], line: u16, node: u16, room: usize) -> Made
     let question = path_refusal(m, r, line, node, room);
     if question != 0 {
         return Made {
-            nodes: [0u8; 2048],
+            nodes: [0u8; PAIRS],
             answer: Shown::Refused {
                 question: question,
                 sheet: checks::sheet_of(question),
             },
-            states: [0u16; 2048],
+            states: [0u16; PAIRS],
         };
     }
     let j = asked(r, line);
-    let mut rows = [0u64; 2048];
+    let mut rows = [0u64; LINES_WORDS];
     label_lines(m, r, &mut rows, j - 1);
     let x = rules::line_word(r, j, 1);
     if rules::line_word(r, j, 0) == 4 {
@@ -215,8 +217,8 @@ fn wide(x: u8) -> u16
 }
 
 // Writes the first `count` nodes to the list.
-fn write_nodes(list: &mut [u16], from: &[u8; 2048], count: u16)
-    requires { ⌜ (count ≤ 2048) × (length (now from) ≡ 2048) × (count ≤ length (now list)) ⌝ }
+fn write_nodes(list: &mut [u16], from: &[u8; PAIRS], count: u16)
+    requires { ⌜ (count ≤ pairsMost) × (length (now from) ≡ pairsMost) × (count ≤ length (now list)) ⌝ }
     ensures { λ u. ⌜ now (list .exit) ≡ take count (now (from .entry)) ++ drop count (now (list .entry)) ⌝ }
 {
     let mut i: u16 = 0;
@@ -227,8 +229,8 @@ fn write_nodes(list: &mut [u16], from: &[u8; 2048], count: u16)
 }
 
 // Writes the first `count` numbers to the list.
-fn write_first(list: &mut [u16], from: &[u16; 2048], count: u16)
-    requires { ⌜ (count ≤ 2048) × (length (now from) ≡ 2048) × (count ≤ length (now list)) ⌝ }
+fn write_first(list: &mut [u16], from: &[u16; PAIRS], count: u16)
+    requires { ⌜ (count ≤ pairsMost) × (length (now from) ≡ pairsMost) × (count ≤ length (now list)) ⌝ }
     ensures { λ u. ⌜ now (list .exit) ≡ take count (now (from .entry)) ++ drop count (now (list .entry)) ⌝ }
 {
     let mut i: u16 = 0;
@@ -259,11 +261,11 @@ fn least(a: usize, b: usize) -> usize
     if a < b { a } else { b }
 }
 
-// What is made for a list with space for so many pairs: none is longer than 2048, so that more room changes no answer.
+// What is made for a list with space for so many pairs: none is longer than PAIRS, so that more room changes no answer.
 pub fn make_within(m: &[u16], r: &[u16], line: u16, node: u16, space: usize) -> Made
-    ensures { λ a. ⌜ MadeFor (now (m .entry)) (now (r .entry)) line node (min space 2048) (a .nodes) (a .states) (a .answer) ⌝ }
+    ensures { λ a. ⌜ MadeFor (now (m .entry)) (now (r .entry)) line node (min space pairsMost) (a .nodes) (a .states) (a .answer) ⌝ }
 {
-    make(m, r, line, node, least(space, 2048))
+    make(m, r, line, node, least(space, PAIRS))
 }
 
 // The path call for code that has no slice of structs: nodes and states of the pairs go to two lent lists. Line 0 means the last line.

@@ -11,7 +11,7 @@ use crate::sizes::LOW_LAST;
 use crate::sizes::MEMBERS;
 use crate::sizes::ROW_WORD_BITS;
 
-// A set of nodes 1 to 128.
+// A set of nodes, from 1 to MEMBERS.
 pub struct Row {
     pub low: u64,
     pub high: u64,

@@ -20,8 +20,14 @@ pub const TABLE_ROWS: u16 = (POSITIONS * POSITIONS) as u16;
 
 pub const TABLE_WORDS: usize = ROW_WORDS * POSITIONS * POSITIONS;
 
-// A table with a row for each position: its words.
+// A table with a row for each position, or for each valuation, of which there are no more: its words.
 pub const SET_WORDS: usize = ROW_WORDS * POSITIONS;
 
 // A table with a number for each pair of a position p and a node s, that of a pair at format::NODES * p + (s - 1): its numbers.
 pub const PAIRS: usize = POSITIONS * format::NODES;
+
+// The space in which a path call labels the lines above the asked one, a row a line: its words.
+pub const LINES_WORDS: usize = ROW_WORDS * format::LINES;
+
+// A table with a place for each number of a node.
+pub const NODE_PLACES: usize = 256;

@@ -15,6 +15,7 @@ ghost use Rattle.truth.specs.Targets.{linksEnd, TargetsTaken, Stopped, T
 ghost use Rattle.truth.specs.Pairs.{Before};
 ghost use Rattle.truth.specs.Links.{AddedBefore};
 use crate::rows::Row;
+use crate::sizes::NODE_PLACES;
 use crate::sizes::TABLE_ROWS;
 use crate::sizes::TABLE_WORDS;
 use crate::tables::add;
@@ -247,7 +248,7 @@ pub fn start_row(m: &[u16]) -> Row
 
 // The marks that the edges of node s lead to, where `mark` has the mark of each node, 0 for none, and `all` has at least these marks. No
 // mark is read when all are found.
-pub fn marks_into(m: &[u16], mark: &[u16; 256], all: Row, s: u16, tail: Tail) -> Row
+pub fn marks_into(m: &[u16], mark: &[u16; NODE_PLACES], all: Row, s: u16, tail: Tail) -> Row
     requires { ⌜ ((e : ℕ) → T (marksInto (now m) (now mark) s e) → T (rowHas all e)) × TailOf (now m) tail ⌝ }
     ensures { λ r. ⌜ ((e : ℕ) → rowHas r e ≡ marksInto (now (m .entry)) (now (mark .entry)) s e) ⌝ }
 {

@@ -22,14 +22,14 @@ slice-aggregate-answer-to-2 c = search needs
 answer-to-requires : tie.Need-answer-to-requires
 answer-to-requires c κs = search needs
 
-enum-known-answer : tie.Need-enum-known-answer
-enum-known-answer c = search needs
+enum-known-labelled : tie.Need-enum-known-labelled
+enum-known-labelled c = search needs
 
 refusal-requires : tie.Need-refusal-requires
 refusal-requires c κs = search needs
 
-enum-known-answer-2 : tie.Need-enum-known-answer-2
-enum-known-answer-2 c = search needs
+enum-known-labelled-2 : tie.Need-enum-known-labelled-2
+enum-known-labelled-2 c = search needs
 
 slice-aggregate-rows : tie.Need-slice-aggregate-rows
 slice-aggregate-rows c = search needs
@@ -37,7 +37,7 @@ slice-aggregate-rows c = search needs
 rows-requires : tie.Need-rows-requires
 rows-requires c κs =
     let known = c .before .before in
-    rows-fit _ _ _ _ _ _ _ _ _ (known .before .before .before .answer-to .ensures) (known .answer2 .given .1)
+    rows-fit _ _ _ _ _ _ _ (known .before .before .before .answer-to .ensures) (known .labelled2 .given .1)
 
 verdict-requires : tie.Need-verdict-requires
 verdict-requires c κs = search needs
@@ -58,9 +58,9 @@ main-spec =
     slice-aggregate-answer-to
     slice-aggregate-answer-to-2
     answer-to-requires
-    enum-known-answer
+    enum-known-labelled
     refusal-requires
-    enum-known-answer-2
+    enum-known-labelled-2
     slice-aggregate-rows
     rows-requires
     verdict-requires

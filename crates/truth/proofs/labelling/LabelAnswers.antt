@@ -1,7 +1,7 @@
 -- What labelling answers: refused by the first "no" of its table with every lent word as before, or done.
 use mathlib.Core.Path.{_≡_, refl, sym, _∙_}
 use mathlib.Core.Logic.{_↔_, Iff·trans}
-use Prim.Native.Nat.{ℕ, _+_, _-_, _*_, _^_, _<_}
+use Prim.Native.Nat.{ℕ, _-_, _^_, _<_}
 use native.Mathlib.Omega.{arith}
 use mathlib.Core.List.{List}
 use mathlib.Core.Bool.{Bool}
@@ -14,6 +14,7 @@ use Rattle.sheets.specs.Rules.{lent, lines}
 use Rattle.sheets.specs.Sheets.{sheetOf}
 use Rattle.sheets.proofs.AcceptedMachine.{nodes-sized}
 use Rattle.sheets.proofs.AcceptedRule.{some-line}
+use Rattle.truth.specs.Sizes.{membersMost, lowAt, highAt, rowWordBits}
 use Rattle.truth.specs.Rows.{held, tally}
 use Rattle.truth.specs.Labelling.{labelQuestions, Rows, rowOnes, StartsIn, percent}
 use Rattle.truth.specs.LabelAnswers.{refusalOf, Leaves, LabelAnswer}
@@ -30,8 +31,8 @@ module _ (M R before : List ℕ) (q : ℕ) (e : q ≡ firstNo (labelQuestions M 
 
   -- the last row is that of two words
   pub done : (after : List ℕ) (low high l : ℕ) (kept : Bool) (count share : ℕ) → q ≡ 0 → Rows M R before after → l ≡ lines R
-      → low ≡ getD after (2 * (l - 1)) 0 → high ≡ getD after (2 * (l - 1) + 1) 0 → low < 2 ^ 64 → high < 2 ^ 64
-      → T kept ↔ StartsIn M (held low high) → count ≡ tally 128 (held low high) → share ≡ percent count (nodes M)
+      → low ≡ getD after (lowAt (l - 1)) 0 → high ≡ getD after (highAt (l - 1)) 0 → low < 2 ^ rowWordBits → high < 2 ^ rowWordBits
+      → T kept ↔ StartsIn M (held low high) → count ≡ tally membersMost (held low high) → share ≡ percent count (nodes M)
       → LabelAnswer M R before after (Done kept count share)
   unfolding refusalOf Leaves rowOnes word
   done after low high l kept count share z rows el lo hi ll lh k counted shared =

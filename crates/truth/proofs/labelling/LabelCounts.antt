@@ -18,6 +18,8 @@ use Rattle.sheets.proofs.Counting.{sum-most, number}
 use Rattle.sheets.proofs.AcceptedMachine.{nodes-sized}
 use Rattle.sheets.proofs.AcceptedRule.{some-line}
 use Rattle.sheets.proofs.BitLaws.{sum-same}
+use Rattle.sheets.specs.Format.{nodesMost}
+use Rattle.truth.specs.Sizes.{membersMost, rowWordBits}
 use Rattle.truth.specs.Truth.{TrueAt}
 use Rattle.truth.specs.Rows.{held}
 use Rattle.truth.specs.Labelling.{rowBit, rowOnes, Rows, HowMany, none, one-more, no-more}
@@ -43,22 +45,22 @@ number-clear n k p clear =
 
 -- ---- the last row, of two words of 64 bits
 
-module _ (M R before after : List ℕ) (small : nodes M ≤ 128) (some : 1 ≤ lines R) (rows : Rows M R before after) where
+module _ (M R before after : List ℕ) (small : nodes M ≤ nodesMost) (some : 1 ≤ lines R) (rows : Rows M R before after) where
   abbrev low : ℕ
   low = word after (2 * (lines R - 1))
 
   abbrev high : ℕ
   high = word after (2 * (lines R - 1) + 1)
 
-  module _ (l : low < 2 ^ 64) (h : high < 2 ^ 64) where
+  module _ (l : low < 2 ^ rowWordBits) (h : high < 2 ^ rowWordBits) where
     -- the ones in the last row are the nodes whose bit it has
     pub ones-counted : rowOnes after (lines R) ≡ number (nodes M) (rowBit after (lines R))
     unfolding rowOnes word
     ones-counted =
-        let e : nodes M + (128 - nodes M) ≡ 128 = omega arith in
-        let bits : (s : ℕ) → 1 ≤ s → s ≤ 128 → held low high s ≡ rowBit after (lines R) s = λ s lo hi. sym (row-bit after (lines R) s lo hi) in
-        held-count low high l h ∙ tally-number 128 (held low high)
-        ∙ rw e at (number-clear (nodes M) (128 - nodes M) (held low high) (λ s lo hi. bits s (omega arith) (omega arith) ∙ rows .clear (lines R) s some (omega arith) lo (omega arith)))
+        let e : nodes M + (membersMost - nodes M) ≡ membersMost = omega arith in
+        let bits : (s : ℕ) → 1 ≤ s → s ≤ membersMost → held low high s ≡ rowBit after (lines R) s = λ s lo hi. sym (row-bit after (lines R) s lo hi) in
+        held-count low high l h ∙ tally-number membersMost (held low high)
+        ∙ rw e at (number-clear (nodes M) (membersMost - nodes M) (held low high) (λ s lo hi. bits s (omega arith) (omega arith) ∙ rows .clear (lines R) s some (omega arith) lo (omega arith)))
         ∙ number-same (nodes M) (held low high) (rowBit after (lines R)) (λ s lo hi. bits s lo (omega arith))
 
 -- ---- labelling's answer: of the nodes 1 to n of the machine so many have the last line true, by definition 5
@@ -83,7 +85,7 @@ tested-many P p (suc n) says =
 
 -- the words of the space are of 64 bits
 pub count-true : (M R before after : List ℕ) (kept : Bool) (count share : ℕ) → LabelAnswer M R before after (Done kept count share)
-    → ((i : ℕ) → word after i < 2 ^ 64) → HowMany (TrueAt lent M R (lines R)) (nodes M) count
+    → ((i : ℕ) → word after i < 2 ^ rowWordBits) → HowMany (TrueAt lent M R (lines R)) (nodes M) count
 unfolding refusalOf Leaves noRefusal
 count-true M R before after kept count share answer words =
     let asked = ap (λ (r : Refusal). r .number) (answer .refusal) in

@@ -13,6 +13,7 @@ use Rattle.sheets.specs.Rules.{lent, lines, overSignals, ruleRefusal}
 use Rattle.sheets.specs.Sheets.{sheetOf}
 use Rattle.sheets.proofs.Questions.{AllYes}
 use Rattle.sheets.proofs.SheetTable.{BothAccepted, Sheeted, call-accepted, call-refused, call-none, call-passes}
+use Rattle.truth.specs.Sizes.{rowWords}
 use Rattle.truth.specs.Labelling.{labelQuestions}
 
 abbrev pub spaceQuestion : List ℕ → ℕ → List Question
@@ -46,11 +47,11 @@ module _ (M R : List ℕ) (space : ℕ) where
     pub rules-accepted : ruleRefusal lent R ≡ 0
     rules-accepted = accepted .0 .rules
 
-    pub space-enough : 2 * lines R ≤ space
+    pub space-enough : rowWords * lines R ≤ space
     space-enough = leb→le (2 * lines R) space (accepted .1 .0)
 
   -- accepted sheets, the rule over the machine's signals, and space enough: labelling refuses nothing
-  pub label-accepts : machineRefusal M ≡ 0 → ruleRefusal lent R ≡ 0 → T (overSignals lent (signals M) R) → 2 * lines R ≤ space
+  pub label-accepts : machineRefusal M ≡ 0 → ruleRefusal lent R ≡ 0 → T (overSignals lent (signals M) R) → rowWords * lines R ≤ space
       → firstNo (labelQuestions M R space) ≡ noRefusal
   unfolding labelQuestions
   label-accepts machine rules over enough =

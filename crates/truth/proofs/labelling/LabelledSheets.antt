@@ -17,6 +17,8 @@ use Rattle.sheets.proofs.Counting.{number}
 use Rattle.sheets.proofs.Positions.{same-tests}
 use Rattle.sheets.proofs.AcceptedMachine.{nodes-sized}
 use Rattle.sheets.proofs.AcceptedRule.{some-line}
+use Rattle.sheets.specs.Format.{nodesMost}
+use Rattle.truth.specs.Sizes.{membersMost, rowWords, rowWordBits}
 use Rattle.truth.specs.Truth.{TrueAt, Keeps}
 use Rattle.truth.specs.Labelling.{rowBit, Rows, percent}
 use Rattle.truth.specs.LabelAnswers.{refusalOf, LabelledAs, Leaves, LabelAnswer}
@@ -27,13 +29,13 @@ use Rattle.truth.proofs.labelling.LabelTable.{label-accepts}
 use Rattle.truth.proofs.labelling.LabelCounts.{number-same, ones-counted}
 
 module _ (M R : List ℕ) (machine : machineRefusal M ≡ 0) (rules : ruleRefusal lent R ≡ 0) (over : T (overSignals lent (signals M) R)) where
-  never-refused : (before after : List ℕ) (q i : ℕ) → 2 * lines R ≤ length before → LabelAnswer M R before after (Refused q i) → ⊥
+  never-refused : (before after : List ℕ) (q i : ℕ) → rowWords * lines R ≤ length before → LabelAnswer M R before after (Refused q i) → ⊥
   unfolding refusalOf Leaves noRefusal
   never-refused before after q i room a =
       let e : q ≡ 0 = ap (λ (r : Refusal). r .number) (a .refusal ∙ label-accepts M R (length before) machine rules over room) in
       omega (arith, a .leaves .0)
 
-  small : nodes M ≤ 128
+  small : nodes M ≤ nodesMost
   small = nodes-sized M machine .1
 
   some : 1 ≤ lines R
@@ -42,21 +44,21 @@ module _ (M R : List ℕ) (machine : machineRefusal M ≡ 0) (rules : ruleRefusa
   -- where each line holds
   module _ (holds : ℕ → ℕ → Bool) (truth : (j s : ℕ) → 1 ≤ j → j ≤ lines R → 1 ≤ s → s ≤ nodes M → T (holds j s) ↔ TrueAt lent M R j s)
       (clear : (j s : ℕ) → nodes M < s → holds j s ≡ false) where
-    bits : (before after : List ℕ) → Rows M R before after → (j s : ℕ) → 1 ≤ j → j ≤ lines R → 1 ≤ s → s ≤ 128 → rowBit after j s ≡ holds j s
+    bits : (before after : List ℕ) → Rows M R before after → (j s : ℕ) → 1 ≤ j → j ≤ lines R → 1 ≤ s → s ≤ membersMost → rowBit after j s ≡ holds j s
     bits before after rows j s lo hi l h =
         ⊎-elim
         (λ a. let e = Iff·trans (rows .truth j s lo hi l a) (Iff·symm (truth j s lo hi l a)) in same-tests (rowBit after j s) (holds j s) (e .0) (e .1))
         (λ a. rows .clear j s lo hi a h ∙ sym (clear j s a)) (le-or-gt s (nodes M))
 
-    row-bits : (before after : List ℕ) (answer : Labelled) → 2 * lines R ≤ length before → LabelAnswer M R before after answer
-        → (j s : ℕ) → 1 ≤ j → j ≤ lines R → 1 ≤ s → s ≤ 128 → rowBit after j s ≡ holds j s
+    row-bits : (before after : List ℕ) (answer : Labelled) → rowWords * lines R ≤ length before → LabelAnswer M R before after answer
+        → (j s : ℕ) → 1 ≤ j → j ≤ lines R → 1 ≤ s → s ≤ membersMost → rowBit after j s ≡ holds j s
     unfolding Leaves
     row-bits before after (Refused q i) room a = absurd (never-refused before after q i room a)
     row-bits before after (Done k c p) room a = bits before after (a .leaves .rows)
 
     module _ (kept : Bool) (keeps : T kept ↔ Keeps lent M R) (count : ℕ) (counted : number (nodes M) (holds (lines R)) ≡ count)
         (share : ℕ) (shared : percent count (nodes M) ≡ share) where
-      done : (before after : List ℕ) (k : Bool) (c p : ℕ) → ((i : ℕ) → word after i < 2 ^ 64) → LabelledAs M R before after k c p
+      done : (before after : List ℕ) (k : Bool) (c p : ℕ) → ((i : ℕ) → word after i < 2 ^ rowWordBits) → LabelledAs M R before after k c p
           → Done k c p ≡ Done kept count share
       done before after k c p words l =
           let b = Iff·trans (l .keeps) (Iff·symm keeps) in
@@ -67,7 +69,7 @@ module _ (M R : List ℕ) (machine : machineRefusal M ≡ 0) (rules : ruleRefusa
           let ep : p ≡ share = l .shared ∙ ap (λ (x : ℕ). percent x (nodes M)) ec ∙ shared in
           rw (ek, ec, ep)
 
-      answered : (before after : List ℕ) (answer : Labelled) → 2 * lines R ≤ length before → ((i : ℕ) → word after i < 2 ^ 64)
+      answered : (before after : List ℕ) (answer : Labelled) → rowWords * lines R ≤ length before → ((i : ℕ) → word after i < 2 ^ rowWordBits)
           → LabelAnswer M R before after answer → answer ≡ Done kept count share
       unfolding Leaves
       answered before after (Refused q i) room words a = absurd (never-refused before after q i room a)

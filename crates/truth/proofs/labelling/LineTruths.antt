@@ -12,8 +12,10 @@ use Rattle.sheets.specs.Words.{word}
 use Rattle.sheets.specs.Machine.{nodes, kripke, machineRefusal}
 use Rattle.sheets.specs.Rules.{lent, automata, automaton, line, lines, ruleRefusal}
 use Rattle.sheets.proofs.AcceptedMachine.{nodes-sized, edge-stays}
-use Rattle.sheets.proofs.FormedLines.{formed, over-sixteen}
+use Rattle.sheets.proofs.FormedLines.{formed, over-most}
 use Rattle.sheets.proofs.Search.{le-or-gt}
+use Rattle.sheets.specs.Format.{nodesMost}
+use Rattle.truth.specs.Sizes.{membersMost}
 use Rattle.truth.specs.Truth.{Means, TrueAt}
 use Rattle.truth.specs.Rows.{held}
 use Rattle.truth.specs.Labelling.{rowBit, RowsTo}
@@ -46,7 +48,7 @@ module _ (M R : List ℕ) (machine : machineRefusal M ≡ 0) (rules : ruleRefusa
   line-true P j lo hi above s l h =
       Iff·trans
       (line-agrees 16 (kripke M) (kripke M) Same same-nodes (automata R) (automaton R) (λ i s. T (P i s)) (TrueAt lent M R) j
-      (λ i l h s t b. rw (← b .0) (above i s l h (b .1 .0) (b .1 .1))) (line lent R j) (formed lent R rules 16 (over-sixteen lent R rules) j lo hi) s s (refl, (l, h)))
+      (λ i l h s t b. rw (← b .0) (above i s l h (b .1 .0) (b .1 .1))) (line lent R j) (formed lent R rules 16 (over-most lent R rules) j lo hi) s s (refl, (l, h)))
       (Iff·symm (truth-recursion lent M R rules j s lo hi))
 
   -- one row more: line k is the next, and its row's two words are stored
@@ -55,18 +57,18 @@ module _ (M R : List ℕ) (machine : machineRefusal M ≡ 0) (rules : ruleRefusa
     room : 2 * (k - 1) + 1 < length now
     room = omega arith
 
-    bit-old : (i s : ℕ) → 1 ≤ i → i ≤ j → 1 ≤ s → s ≤ 128 → rowBit after i s ≡ rowBit now i s
+    bit-old : (i s : ℕ) → 1 ≤ i → i ≤ j → 1 ≤ s → s ≤ membersMost → rowBit after i s ≡ rowBit now i s
     bit-old i s lo hi l h =
         row-bit after i s l h ∙ rw e (stored-other now (k - 1) a b room (i - 1) s (λ q. omega arith)) ∙ sym (row-bit now i s l h)
 
-    bit-new : (i s : ℕ) → i ≡ k → 1 ≤ s → s ≤ 128 → rowBit after i s ≡ held a b s
+    bit-new : (i s : ℕ) → i ≡ k → 1 ≤ s → s ≤ membersMost → rowBit after i s ≡ held a b s
     bit-new i s q l h = row-bit after i s l h ∙ rw (q, e) (stored-here now (k - 1) a b room s)
 
     word-old : (i : ℕ) → 2 * k ≤ i → word after i ≡ word now i
     unfolding word
     word-old i h = rw e (stored-word now (k - 1) a b room i (λ q. omega arith) (λ q. omega arith))
 
-    small : nodes M ≤ 128
+    small : nodes M ≤ nodesMost
     small = nodes-sized M machine .1
 
     truth-new : (s : ℕ) → 1 ≤ s → s ≤ nodes M → T (held a b s) ↔ TrueAt lent M R k s

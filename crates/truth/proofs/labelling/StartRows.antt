@@ -16,40 +16,42 @@ use Rattle.sheets.proofs.Tests.{and-left, and-right, and-both, surely}
 use Rattle.sheets.proofs.Search.{within-in, each-at, each-in, find, le-or-gt}
 use Rattle.sheets.proofs.Questions.{machine-answers}
 use Rattle.sheets.proofs.AcceptedMachine.{start-node}
+use Rattle.sheets.specs.Format.{nodesMost}
+use Rattle.truth.specs.Sizes.{membersMost}
 use Rattle.truth.specs.Truth.{Keeps}
 use Rattle.truth.specs.Labelling.{StartsIn, Rows, rowBit}
 
-module _ (M : List ℕ) (small : nodes M ≤ 128) where
+module _ (M : List ℕ) (small : nodes M ≤ nodesMost) where
   -- what the row of the start nodes has
   abbrev pub startTest : ℕ → Bool
-  startTest s = leb s (nodes M) && (within 1 128 s && eqb (startFlag M s) 1)
+  startTest s = leb s (nodes M) && (within 1 membersMost s && eqb (startFlag M s) 1)
 
   pub start-tested : (s : ℕ) → T (kripke M .start s) → T (startTest s)
   unfolding kripke
   start-tested s t =
       let h = start-node M s t in
       and-both (leb s (nodes M)) _ (subst T (sym (le-leb s (nodes M) (h .1))) tt)
-      (and-both (within 1 128 s) (eqb (startFlag M s) 1) (within-in 1 128 s (h .0) (omega arith)) (and-right (within 1 (nodes M) s) (eqb (startFlag M s) 1) t))
+      (and-both (within 1 membersMost s) (eqb (startFlag M s) 1) (within-in 1 membersMost s (h .0) (omega arith)) (and-right (within 1 (nodes M) s) (eqb (startFlag M s) 1) t))
 
   pub tested-start : (s : ℕ) → 1 ≤ s → T (startTest s) → T (kripke M .start s)
   unfolding kripke within
   tested-start s lo t =
       let flag = eqb (startFlag M s) 1 in
       and-both (within 1 (nodes M) s) flag
-      (and-both (leb 1 s) (leb s (nodes M)) (subst T (sym (le-leb 1 s lo)) tt) (and-left (leb s (nodes M)) (within 1 128 s && flag) t))
-      (and-right (within 1 128 s) flag (and-right (leb s (nodes M)) (within 1 128 s && flag) t))
+      (and-both (leb 1 s) (leb s (nodes M)) (subst T (sym (le-leb 1 s lo)) tt) (and-left (leb s (nodes M)) (within 1 membersMost s && flag) t))
+      (and-right (within 1 membersMost s) flag (and-right (leb s (nodes M)) (within 1 membersMost s && flag) t))
 
   -- a row with the start nodes that `last` has not, and whether it is empty
   pub starts-in : (start last left : ℕ → Bool) (b : Bool) → ((s : ℕ) → start s ≡ startTest s) → ((s : ℕ) → left s ≡ (start s && not (last s)))
-      → b ≡ each 128 (λ s. not (left s)) → T b ↔ StartsIn M last
+      → b ≡ each membersMost (λ s. not (left s)) → T b ↔ StartsIn M last
   unfolding StartsIn
   starts-in start last left b starts lefts e = (
     λ t s k.
         let h = start-node M s k in
         surely (last s) (λ n.
-        T-not (left s) (each-at 128 (λ s. not (left s)) (subst T e t) s (h .0) (omega arith))
+        T-not (left s) (each-at membersMost (λ s. not (left s)) (subst T e t) s (h .0) (omega arith))
         (subst T (sym (lefts s)) (and-both (start s) (not (last s)) (subst T (sym (starts s)) (start-tested s k)) n))),
-    λ f. subst T (sym e) (each-in 128 (λ s. not (left s)) (λ s lo hi.
+    λ f. subst T (sym e) (each-in membersMost (λ s. not (left s)) (λ s lo hi.
         not-T (left s) (λ l.
         let t = subst T (lefts s) l in
         T-not (last s) (and-right (start s) (not (last s)) t) (f s (tested-start s lo (subst T (starts s) (and-left (start s) (not (last s)) t))))))),

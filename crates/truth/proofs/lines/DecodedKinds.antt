@@ -7,7 +7,7 @@ use mathlib.Core.Bool.{Bool, true, false}
 use lib.Dec.{T}
 use Rattle.sheets.specs.Structures as Structures
 use Rattle.sheets.specs.Rules.{lent, lines, lineWord, lineOf, line, lineFits, automata, automaton, ruleRefusal}
-use Rattle.sheets.specs.Lines.{decodedBy, decoded}
+use Rattle.sheets.specs.Lines.{decodedAs, decoded}
 use Rattle.sheets.specs.declared.lines.Line.{Line}
 use Rattle.sheets.specs.declared.lines.Line.the-variants.{Signal, Negation, Either, SomePath, SomePathNot}
 use Rattle.sheets.specs.declared.lines.Decoded.{Decoded}
@@ -15,6 +15,7 @@ use Rattle.sheets.specs.declared.lines.Decoded.the-variants.{Formed, Malformed}
 use Rattle.sheets.proofs.AcceptedRule.{line-fits}
 use Rattle.sheets.proofs.DecodedLines.{malformed-fails}
 use Rattle.sheets.proofs.FormedLines as FormedLines
+use Rattle.sheets.specs.Format.{signalsMost}
 use Rattle.truth.specs.Product.{argument}
 
 module _ (R : List ℕ) (j : ℕ) where
@@ -23,14 +24,14 @@ module _ (R : List ℕ) (j : ℕ) where
   meant (Signal i) = Structures.signal i
   meant (Negation k) = Structures.negation k
   meant (Either i k) = Structures.either i k
-  meant (SomePath x) = Structures.somePath x (argument R j)
-  meant (SomePathNot x) = Structures.somePathNot x (argument R j)
+  meant (SomePath p) = Structures.somePath (p .automaton) (argument R j)
+  meant (SomePathNot p) = Structures.somePathNot (p .automaton) (argument R j)
 
   same-formed : {k l : Line} → Formed k ≡ Formed l → meant k ≡ meant l
   same-formed {k} {l} e = let f : k ≡ l = cc in rw f
 
-  meant-by : (l : Line) (n : ℕ) (b : Bool) → decodedBy R j n b ≡ Formed l → lineOf lent R j n ≡ meant l
-  unfolding decodedBy lineOf
+  meant-by : (l : Line) (n : ℕ) (b : Bool) → decodedAs b (lineOf lent R j n) ≡ Formed l → lineOf lent R j n ≡ meant l
+  unfolding decodedAs lineOf
   meant-by l n false e = let z : _≡_ {A = ℕ} 0 1 = cc in absurd (omega arith)
   meant-by l zero true e = same-formed e
   meant-by l (suc zero) true e = same-formed e
@@ -51,5 +52,5 @@ module _ (R : List ℕ) (j : ℕ) where
     pub none-malformed : decoded R j ≡ Malformed → ⊥
     none-malformed e = subst T (malformed-fails R j e) (line-fits lent R accepted j lo hi)
 
-    pub refers : (l : Line) → decoded R j ≡ Formed l → FormedLines.Formed 16 (automata R) (automaton R) j (meant l)
-    refers l e = rw (line-meant l e) at (FormedLines.formed lent R accepted 16 (FormedLines.over-sixteen lent R accepted) j lo hi)
+    pub refers : (l : Line) → decoded R j ≡ Formed l → FormedLines.Formed signalsMost (automata R) (automaton R) j (meant l)
+    refers l e = rw (line-meant l e) at (FormedLines.formed lent R accepted signalsMost (FormedLines.over-most lent R accepted) j lo hi)

@@ -11,6 +11,7 @@ use Rattle.sheets.specs.Words.{within}
 use Rattle.sheets.specs.Machine.{nodes, kripke, signalAt}
 use Rattle.sheets.specs.Rules.{lent, automata, automaton}
 use Rattle.sheets.specs.Lines.{decoded}
+use Rattle.sheets.specs.declared.lines.PathLine.{PathLine}
 use Rattle.sheets.specs.declared.lines.Line.{Line}
 use Rattle.sheets.specs.declared.lines.Line.the-variants.{Signal, Negation, Either, SomePath, SomePathNot}
 use Rattle.sheets.specs.declared.lines.Decoded.the-variants.{Formed, Malformed}
@@ -19,6 +20,7 @@ use Rattle.sheets.proofs.Search.{within-in}
 use Rattle.sheets.proofs.AcceptedMachine.{nodes-sized}
 use Rattle.sheets.proofs.FormedLines as FormedLines
 use Rattle.sheets.proofs.PositionedStates.{positioned-named}
+use Rattle.sheets.specs.Format.{signalsMost}
 use Rattle.truth.specs.Sizes.{membersMost}
 use Rattle.truth.specs.Rows.{rowsHas}
 use Rattle.truth.specs.Truth.{SomePath as PathFrom, Means}
@@ -35,12 +37,12 @@ pub nodes-passing : {n m : ℕ} → n ≡ m → {all : ℕ → Bool} → ((s : �
 nodes-passing {n} {m} e {all} allIs {row} f g is same s = rw (is s, allIs s, e, same s) (and-assoc (leb s m) (within 1 membersMost s) (g s))
 
 -- a path line, with accepting and non-accepting states exchanged or not
-abbrev pathLine : Bool → ℕ → Line
-pathLine false x = SomePath x
-pathLine true x = SomePathNot x
+abbrev pathLine : Bool → PathLine → Line
+pathLine false p = SomePath p
+pathLine true p = SomePathNot p
 
 module _ {M R next back rows : List ℕ} {j : ℕ} (pre : LineReady M R next back rows j) where
-  refer : (l : Line) → decoded R j ≡ Formed l → FormedLines.Formed 16 (automata R) (automaton R) j (meant R j l)
+  refer : (l : Line) → decoded R j ≡ Formed l → FormedLines.Formed signalsMost (automata R) (automaton R) j (meant R j l)
   refer = refers R j (pre .ready .rules) (pre .from) (pre .to)
 
   -- ---- what the lines referred to ask for
@@ -65,10 +67,10 @@ module _ {M R next back rows : List ℕ} {j : ℕ} (pre : LineReady M R next bac
     arguments = λ i l. above (r .1 i (rw (positioned-named lent R (pre .ready .rules) x (r .0 .0) (r .0 .1) .variables) l));
   }
 
-  pub path-ready : (exchanged : Bool) {x : ℕ} → decoded R j ≡ Formed (pathLine exchanged x) → PathReady M R next back rows j x
+  pub path-ready : (exchanged : Bool) (p : PathLine) → decoded R j ≡ Formed (pathLine exchanged p) → PathReady M R next back rows j (p .automaton)
   unfolding FormedLines.Formed
-  path-ready false {x} e = path-asks (refer (SomePath x) e)
-  path-ready true {x} e = path-asks (refer (SomePathNot x) e)
+  path-ready false p e = path-asks (refer (SomePath p) e)
+  path-ready true p e = path-asks (refer (SomePathNot p) e)
 
   -- ---- the rows
 
@@ -117,7 +119,7 @@ module _ {M R next back rows : List ℕ} {j : ℕ} (pre : LineReady M R next bac
         Iff·trans (p .truth s lo hi)
         (Iff·symm (path-by-position lent R (path .ready .rules) x (path .from) (path .to) (kripke M) (rowTruths rows) (argument R j) exchanged s))
 
-    pub path-row : (exchanged : Bool) {x : ℕ} → decoded R j ≡ Formed (pathLine exchanged x) → PathRow M R rows j x exchanged row → LineRow M R rows j row
+    pub path-row : (exchanged : Bool) (p : PathLine) → decoded R j ≡ Formed (pathLine exchanged p) → PathRow M R rows j (p .automaton) exchanged row → LineRow M R rows j row
     unfolding Means turned
-    path-row false {x} e p = record { truth = λ s lo hi. rw (line-meant R j (SomePath x) e) (by-name false (path-ready false e) p s lo hi); clear = p .clear }
-    path-row true {x} e p = record { truth = λ s lo hi. rw (line-meant R j (SomePathNot x) e) (by-name true (path-ready true e) p s lo hi); clear = p .clear }
+    path-row false p e row = record { truth = λ s lo hi. rw (line-meant R j (SomePath p) e) (by-name false (path-ready false p e) row s lo hi); clear = row .clear }
+    path-row true p e row = record { truth = λ s lo hi. rw (line-meant R j (SomePathNot p) e) (by-name true (path-ready true p e) row s lo hi); clear = row .clear }

@@ -21,7 +21,7 @@ use Rattle.truth.specs.Labelling.{rowBit, rowTruths}
 use Rattle.truth.specs.Rows.{rowsHas}
 use Rattle.truth.specs.Pairs.{edgeIn, PairStep, Least, Greatest}
 use Rattle.truth.specs.Trails.{Looped}
-use Rattle.truth.specs.Lists.{Step, Lasso}
+use Rattle.truth.specs.Lists.{AutomatonStep, Lasso}
 use Rattle.truth.specs.Product.{argumentAt, good, Allowed, GoodRows}
 use Rattle.truth.specs.OneLine.{Successors, nodeSet}
 use Rattle.truth.proofs.tables.RowBits.{row-bit}
@@ -116,7 +116,7 @@ module _ (M : List ℕ) (machine-ok : machineRefusal M ≡ 0) (A : Automaton) (t
 
       -- a step of the walk is a step of the automaton and an edge
       takes : (i k : ℕ) → 1 ≤ i → i ≤ len → PairStep allow next t (position i) (node i) (position k) (node k)
-          → Step A (rowTruths rows) arg (node i) (position i + 1) (position k + 1)
+          → AutomatonStep A (rowTruths rows) arg (node i) (position i + 1) (position k + 1)
       takes i k l h step =
           let r = walk-node i l h in
           let v = value (node i) in

@@ -14,7 +14,8 @@ use Rattle.sheets.specs.Machine.{nodes, kripke, machineRefusal}
 use Rattle.sheets.specs.Rules.{lent, lines, automata, automaton, line, lineOf, lineWord, ruleRefusal}
 use Rattle.sheets.proofs.Search.{within-at, le-or-gt}
 use Rattle.sheets.proofs.AcceptedMachine.{edge-stays}
-use Rattle.sheets.proofs.FormedLines.{Formed, formed, over-sixteen}
+use Rattle.sheets.proofs.FormedLines.{Formed, formed, over-most}
+use Rattle.sheets.specs.Format.{signalsMost}
 use Rattle.truth.specs.Truth.{Truths, SomePath, Means, TrueAt}
 use Rattle.truth.specs.Labelling.{rowBit, rowTruths, RowsTo}
 use Rattle.truth.specs.Lists.{Lasso}
@@ -54,7 +55,7 @@ module _ (R : List ℕ) (j : ℕ) where
   shows-path false K above s node state len back l = l
   shows-path true K above s node state len back l = l
 
-  refers-path : (exchanged : Bool) → Formed 16 (automata R) (automaton R) j (lineOf lent R j (operation exchanged))
+  refers-path : (exchanged : Bool) → Formed signalsMost (automata R) (automaton R) j (lineOf lent R j (operation exchanged))
       → ((1 ≤ auto) × (auto ≤ automata R)) × ((i : ℕ) → i < automaton R auto .variables → (1 ≤ argument R j i) × (argument R j i < j))
   unfolding lineOf Formed
   refers-path false f = f
@@ -69,7 +70,7 @@ module _ (M R : List ℕ) (machine : machineRefusal M ≡ 0) (rules : ruleRefusa
   line-is = ap (lineOf lent R j) kind
 
   pub path-refers : ((1 ≤ auto R j) × (auto R j ≤ automata R)) × ((i : ℕ) → i < automaton R (auto R j) .variables → (1 ≤ argument R j i) × (argument R j i < j))
-  path-refers = refers-path R j exchanged (rw line-is at (formed lent R rules 16 (over-sixteen lent R rules) j lo hi))
+  path-refers = refers-path R j exchanged (rw line-is at (formed lent R rules signalsMost (over-most lent R rules) j lo hi))
 
   module _ (before rows : List ℕ) (written : RowsTo M R (j - 1) before rows) where
     -- the path exists by the bits of the rows where the line is true

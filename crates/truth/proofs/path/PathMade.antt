@@ -19,6 +19,7 @@ use Rattle.sheets.proofs.Search.{within-at}
 use Rattle.sheets.proofs.Questions.{AllYes, rule-answers}
 use Rattle.sheets.proofs.SheetTable.{BothAccepted, Sheeted, call-accepted, call-refused, call-none}
 use Rattle.sheets.proofs.PositionedStates.{positioned-named}
+use Rattle.truth.specs.Sizes.{rowWords, linesWords}
 use Rattle.truth.specs.Truth.{TrueAt}
 use Rattle.truth.specs.Labelling.{RowsTo}
 use Rattle.truth.specs.OneLine.{Ready, PathReady, Holds}
@@ -32,7 +33,7 @@ use Rattle.truth.proofs.path.PathTable.{ownQuestions}
 use Rattle.truth.proofs.path.PathLines.{operation, operated, path-refers, holds-true, list-true}
 
 -- the rows of an accepted sheet fit 2048 words
-pub rows-fit : (R : List ℕ) → ruleRefusal lent R ≡ 0 → 2 * lines R ≤ 2048
+pub rows-fit : (R : List ℕ) → ruleRefusal lent R ≡ 0 → rowWords * lines R ≤ linesWords
 unfolding q7 lent fits
 rows-fit R rules =
     let t : T (leb (lines R) 1024) = search (and-right, rule-answers lent R rules .seven) in
@@ -95,7 +96,7 @@ module _ (M R : List ℕ) (j s room q : ℕ) (e : q ≡ firstNo (pathQuestions M
             rw ex
             (holds-true M R machine-accepted rules-accepted k (line-in .0) (line-in .1) exchanged kind before rows written s (node-in .0) (node-in .1))
 
-        pub show-ready : length rows ≡ 2048
+        pub show-ready : length rows ≡ linesWords
             → (machineRefusal M ≡ 0) × ((ruleRefusal lent R ≡ 0) × ((next back : List ℕ) → Ready M R next back → PathReady M R next back rows k x × ((1 ≤ s) × (s ≤ nodes M))))
         show-ready size =
             let r = path-refers M R machine-accepted rules-accepted k (line-in .0) (line-in .1) exchanged kind in

@@ -17,11 +17,12 @@ use Rattle.sheets.specs.Positioned.{stateCount}
 use Rattle.sheets.specs.Sheets.{sheetQuestions}
 use Rattle.sheets.proofs.Tests.{and-left, and-right}
 use Rattle.sheets.proofs.Search.{within-at, le-or-gt}
-use Rattle.sheets.proofs.Questions.{all-yes, same-rest, rule-answers}
+use Rattle.sheets.proofs.Questions.{all-yes, same-rest}
 use Rattle.sheets.proofs.SheetTable.{both-accepted}
 use Rattle.sheets.proofs.AcceptedMachine.{nodes-sized}
 use Rattle.sheets.proofs.AcceptedRule.{line-fits}
 use Rattle.sheets.proofs.PositionedStates.{few-positions}
+use Rattle.truth.specs.Sizes.{pairsMost}
 use Rattle.truth.specs.Path.{asked, q18, q19, pathQuestions}
 
 -- the call's own questions
@@ -58,15 +59,15 @@ module _ (M R : List ℕ) (j s : ℕ) (machine : machineRefusal M ≡ 0) (rules 
       (path-automaton R k (lineWord lent R k 0) (and-right (within 1 (lines R) k && within 1 (nodes M) s) (within 3 4 (lineWord lent R k 0)) parts)
       (line-fits lent R rules k (line-within .0) (line-within .1)))
 
-  pub pairs-most : nodes M * stateCount R x ≤ 2048
+  pub pairs-most : nodes M * stateCount R x ≤ pairsMost
   pairs-most =
       let t = few-positions R rules x (automaton-within .0) (automaton-within .1) in
       let n = nodes-sized M machine .1 in
       let most = mul-le-mul-left (nodes M) t in
       omega arith
 
-least-room : (p room : ℕ) → p ≤ 2048 → leb p (min room 2048) ≡ leb p room
-least-room p room h = ⊎-elim (λ l. le-leb p (min room 2048) (omega arith) ∙ sym (le-leb p room l)) (λ l. lt-leb p (min room 2048) (omega arith) ∙ sym (lt-leb p room l)) (le-or-gt p room)
+least-room : (p room : ℕ) → p ≤ pairsMost → leb p (min room pairsMost) ≡ leb p room
+least-room p room h = ⊎-elim (λ l. le-leb p (min room pairsMost) (omega arith) ∙ sym (le-leb p room l)) (λ l. lt-leb p (min room pairsMost) (omega arith) ∙ sym (lt-leb p room l)) (le-or-gt p room)
 
 module _ (M R : List ℕ) (j s : ℕ) where
   abbrev lineOn : List Question
@@ -75,7 +76,7 @@ module _ (M R : List ℕ) (j s : ℕ) where
   abbrev roomOn : ℕ → List Question
   roomOn room = ask 19 0 (q19 M R j room) ∷ []
 
-  room-same : (room : ℕ) → firstNo (sheetQuestions M R) .number ≡ 0 → firstNo lineOn .number ≡ 0 → firstNo (roomOn (min room 2048)) ≡ firstNo (roomOn room)
+  room-same : (room : ℕ) → firstNo (sheetQuestions M R) .number ≡ 0 → firstNo lineOn .number ≡ 0 → firstNo (roomOn (min room pairsMost)) ≡ firstNo (roomOn room)
   unfolding q19
   room-same room sheets own =
       let both = both-accepted M R sheets in
@@ -83,8 +84,8 @@ module _ (M R : List ℕ) (j s : ℕ) where
       ap (λ (b : Bool). firstNo (ask 19 0 b ∷ [])) (least-room (nodes M * stateCount R (lineWord lent R (asked R j) 1)) room most)
 
   -- more room than that changes no answer
-  pub room-most : (room : ℕ) → firstNo (pathQuestions M R j s (min room 2048)) ≡ firstNo (pathQuestions M R j s room)
+  pub room-most : (room : ℕ) → firstNo (pathQuestions M R j s (min room pairsMost)) ≡ firstNo (pathQuestions M R j s room)
   unfolding pathQuestions
   room-most room =
-      same-rest (sheetQuestions M R) (ownQuestions M R j s (min room 2048)) (ownQuestions M R j s room)
-      (λ sheets. same-rest lineOn (roomOn (min room 2048)) (roomOn room) (λ own. room-same room sheets own))
+      same-rest (sheetQuestions M R) (ownQuestions M R j s (min room pairsMost)) (ownQuestions M R j s room)
+      (λ sheets. same-rest lineOn (roomOn (min room pairsMost)) (roomOn room) (λ own. room-same room sheets own))

@@ -7,11 +7,11 @@ use native.Mathlib.Omega.{arith}
 use mathlib.Core.Bool.{Bool}
 use Rattle.sheets.specs.Structures.{Kripke, Automaton}
 use Rattle.truth.specs.Truth.{Truths, Valuation}
-use Rattle.truth.specs.Lists.{Step, Lasso}
+use Rattle.truth.specs.Lists.{AutomatonStep, Lasso}
 
 -- a step, by other truths of the arguments
 step-truths : (A : Automaton) (above above′ : Truths) (arg : ℕ → ℕ) (s q q′ : ℕ) → ((k : ℕ) → k < A .variables → above (arg k) s ↔ above′ (arg k) s)
-    → Step A above arg s q q′ → Step A above′ arg s q q′
+    → AutomatonStep A above arg s q q′ → AutomatonStep A above′ arg s q q′
 unfolding Valuation
 step-truths A above above′ arg s q q′ agree st =
     record { valuation = st .valuation; values = (st .values .0, λ k l. Iff·trans (st .values .1 k l) (agree k l)); goes = st .goes }

@@ -10,6 +10,7 @@ use Rattle.sheets.specs.Words.{word}
 use Rattle.sheets.specs.Structures.{Kripke, Automaton, Line, signal, negation, either, somePath, somePathNot, malformed}
 use Rattle.sheets.specs.Machine.{kripke}
 use Rattle.sheets.specs.Rules.{lent, automaton, line}
+use Rattle.truth.specs.Sizes.{pairsMost}
 use Rattle.truth.specs.Truth.{Truths, TrueAt}
 use Rattle.truth.specs.Trails.{placed}
 use Rattle.truth.specs.Path.{asked, Shows, ShowsPath, ShownPath}
@@ -47,8 +48,8 @@ module _ (M R : List ℕ) (j s room : ℕ) (nodes states : List ℕ) where
   count-most count (Path l b) m e = omega (arith, m .made .2)
 
   -- it is written over the first words of two lent lists
-  module _ (nodesBefore statesBefore nodesAfter statesAfter : List ℕ) (roomy : room ≡ min (min (length nodesBefore) (length statesBefore)) 2048)
-      (long-nodes : 2048 ≤ length nodes) (long-states : 2048 ≤ length states) where
+  module _ (nodesBefore statesBefore nodesAfter statesAfter : List ℕ) (roomy : room ≡ min (min (length nodesBefore) (length statesBefore)) pairsMost)
+      (long-nodes : pairsMost ≤ length nodes) (long-states : pairsMost ≤ length states) where
     shown-path : (l b : ℕ) → ShowsPath M R j s (placed nodes) (placed states) l b → l ≤ room
         → nodesAfter ≡ take l nodes ++ drop l nodesBefore → statesAfter ≡ take l states ++ drop l statesBefore
         → ShownPath M R j s nodesBefore statesBefore nodesAfter statesAfter l b

@@ -10,6 +10,7 @@ use Rattle.sheets.specs.Format.{wordBits}
 use Rattle.sheets.specs.Words.{bit}
 use Rattle.sheets.proofs.Search.{le-or-gt}
 use Rattle.sheets.proofs.BitLaws.{bit-none, bit-above}
+use Rattle.truth.specs.Sizes.{valuationsMost}
 use Rattle.truth.specs.Rows.{held}
 use Rattle.truth.specs.Pairs.{Before}
 use Rattle.truth.specs.Product.{Drawn}
@@ -21,7 +22,7 @@ module _ (mask : ℕ) (word : mask < 2 ^ wordBits) where
   few-bits w b = ⊎-elim (λ le. absurd (rw (bit-above wordBits mask w word le) at b)) (λ lt. lt) (le-or-gt wordBits w)
 
   abbrev Member : ℕ → Type 0
-  Member u = (1 ≤ u) × ((u ≤ wordBits) × T (bit mask (u - 1)))
+  Member u = (1 ≤ u) × ((u ≤ valuationsMost) × T (bit mask (u - 1)))
 
   pub mask-members : (u : ℕ) → T (held mask 0 u) ↔ Member u
   mask-members u = (to, λ m. rw (held-low mask 0 u (m .0) (omega (arith, m .1 .0))) (m .1 .1))

@@ -16,11 +16,11 @@ use Rattle.sheets.proofs.Search.{le-or-gt}
 use Rattle.sheets.proofs.Bits.{bits-same}
 use Rattle.sheets.proofs.BitLaws.{one-shifted}
 use Rattle.sheets.proofs.Positions.{same-tests, some-at, some-in}
-use Rattle.truth.specs.Sizes.{positionsMost}
+use Rattle.truth.specs.Sizes.{valuationsMost}
 use Rattle.truth.specs.Product.{same, agrees}
 
 -- the numbers of valuations of v variables: `1 << v` of them
-pub valuations : (v : ℕ) → v ≤ variablesMost → ((1 * 2 ^ v) % 2 ^ wordBits ≡ 2 ^ v) × (2 ^ v ≤ positionsMost)
+pub valuations : (v : ℕ) → v ≤ variablesMost → ((1 * 2 ^ v) % 2 ^ wordBits ≡ 2 ^ v) × (2 ^ v ≤ valuationsMost)
 valuations v h = (one-shifted wordBits v (omega arith), pow-mono h)
 
 -- ---- one bit more

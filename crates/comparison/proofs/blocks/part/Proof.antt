@@ -27,7 +27,7 @@ store-requires-2 c κs = search needs
 
 returns : tie.Need-returns
 returns c =
-    let inside = c .before .before .before .before in
+    let inside : tie.After-intersection = search in
     let load = inside .before .before in
     let a = load .before .before .args in
     let from : (s : ℕ) → rowHas (load .load .result) s ≡ rowsHas (a .rows .now) (a .c) s =

@@ -9,7 +9,8 @@ machine-refusal-requires c κs = search needs
 
 returns : tie.Need-returns
 returns c =
-    let a = c .before .before .before .before .args in
+    let at-start : tie.Start = search in
+    let a = at-start .args in
     by-first (a .m1 .now) (a .m2 .now) (a .space) _ (c .before .machine-refusal .ensures) (c .if1 .taken)
 
 machine-refusal-requires-2 : tie.Need-machine-refusal-requires-2
@@ -17,7 +18,8 @@ machine-refusal-requires-2 c κs = search needs
 
 returns-2 : tie.Need-returns-2
 returns-2 c =
-    let a = c .before .before .before .before .before .before .args in
+    let at-start : tie.Start = search in
+    let a = at-start .args in
     by-second (a .m1 .now) (a .m2 .now) (a .space) _ (c .before .before .before .machine-refusal .ensures) (c .before .before .if1 .left) _ (c .before .machine-refusal2 .ensures) (c .if2 .taken)
 
 last-refusal-requires : tie.Need-last-refusal-requires
@@ -25,8 +27,10 @@ last-refusal-requires c κs = search needs
 
 returns-3 : tie.Need-returns-3
 returns-3 c =
-    let a = c .before .before .before .before .before .before .before .args in
-    by-last (a .m1 .now) (a .m2 .now) (a .space) _ (c .before .before .before .before .machine-refusal .ensures) (c .before .before .before .if1 .left) _ (c .before .before .machine-refusal2 .ensures) (c .before .if2 .left) _ (c .last-refusal .ensures)
+    let at-start : tie.Start = search in
+    let after-machine-refusal : tie.After-machine-refusal = search in
+    let a = at-start .args in
+    by-last (a .m1 .now) (a .m2 .now) (a .space) _ (after-machine-refusal .machine-refusal .ensures) (c .before .before .before .if1 .left) _ (c .before .before .machine-refusal2 .ensures) (c .before .if2 .left) _ (c .last-refusal .ensures)
 
 pub compare-refusal-spec : {M : Type 1} → statement M
 compare-refusal-spec =

@@ -36,11 +36,12 @@ add-c c = search needs
 
 returns : tie.Need-returns Inv-loop μ-loop
 returns c =
-    let start = c .before .before .before .before .before .before .before .before .before in
+    let at-loop : tie.At-loop Inv-loop μ-loop = search in
+    let start : tie.Start Inv-loop μ-loop = search in
     let a = start .args in
-    let one = c .before .before .before .before .before .before .start-row in
-    let two = c .before .before .before .before .before .start-row2 in
-    let at = c .before .before .before .before .loop in
+    let one = at-loop .before .before .start-row in
+    let two = at-loop .before .start-row2 in
+    let at = at-loop .loop in
     side-found (a .m1 .now) (a .m2 .now) (rowsHas (a .first .now)) (rowsHas (a .second .now)) (start .pre .0) (start .pre .1) (rowHas (one .result)) (rowHas (two .result)) (one .ensures) (two .ensures) (at .c) (c .before .before .block-has .result) (c .before .block-has2 .result) (c .before .before .block-has .ensures) (c .before .block-has2 .ensures) (a .count) (omega arith) (c .if1 .taken)
 
 loop-less : tie.Need-loop-less Inv-loop μ-loop
@@ -48,16 +49,18 @@ loop-less c = search needs
 
 loop-again : tie.Need-loop-again Inv-loop μ-loop
 loop-again c =
-    let start = c .before .before .before .before .before .before .before .before .before in
+    let at-loop : tie.At-loop Inv-loop μ-loop = search in
+    let start : tie.Start Inv-loop μ-loop = search in
     let a = start .args in
-    let one = c .before .before .before .before .before .before .start-row in
-    let two = c .before .before .before .before .before .start-row2 in
-    let at = c .before .before .before .before .loop in
+    let one = at-loop .before .before .start-row in
+    let two = at-loop .before .start-row2 in
+    let at = at-loop .loop in
     (omega arith, side-agrees (a .m1 .now) (a .m2 .now) (rowsHas (a .first .now)) (rowsHas (a .second .now)) (start .pre .0) (start .pre .1) (rowHas (one .result)) (rowHas (two .result)) (one .ensures) (two .ensures) (at .c) (c .before .before .block-has .result) (c .before .block-has2 .result) (c .before .before .block-has .ensures) (c .before .block-has2 .ensures) (c .if1 .left) (at .inv .1))
 
 returns-2 : tie.Need-returns-2 Inv-loop μ-loop
 returns-2 c =
-    let a = c .before .before .before .before .before .before .args in
+    let at-start : tie.Start Inv-loop μ-loop = search in
+    let a = at-start .args in
     side-none (a .m1 .now) (a .m2 .now) (rowsHas (a .first .now)) (rowsHas (a .second .now)) (a .count) (c .before .loop .c) (omega arith) (c .before .loop .inv .1)
 
 pub one-sided-spec : {M : Type 1} → statement M

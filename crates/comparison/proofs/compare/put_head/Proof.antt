@@ -21,7 +21,8 @@ same-length c = search needs
 returns : tie.Need-returns
 unfolding head nextWords
 returns c =
-    let a = c .before .before .before .before .before .before .args in
+    let at-start : tie.Start = search in
+    let a = at-start .args in
     head-put (a .space .now) _ (a .n) (c .before .before .copy .ensures)
 
 pub put-head-spec : {M : Type 1} → statement M

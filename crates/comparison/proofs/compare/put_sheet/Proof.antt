@@ -18,12 +18,13 @@ same-length c = search needs
 
 returns : tie.Need-returns
 returns c =
-    let start = c .before .before .before .before .before .before .before .before .before .before .before .before in
-    let got = c .before .before .before .before .before .before .before .before .before .shorten in
+    let after-put-head : tie.After-put-head = search in
+    let start : tie.Start = search in
+    let got = after-put-head .before .before .shorten in
     let x = start .args in
     λ a ls down holds len.
     let short = got .ensures .2 a ls down holds len in
-    (short .0, short .1, sheet-pasted (x .space .now) _ _ _ (got .result) (c .before .before .before .before .before .before .before .put-head .ensures) (c .before .before .put-lines .ensures) (short .0) (short .3) (held (short .2) (short .3)))
+    (short .0, short .1, sheet-pasted (x .space .now) _ _ _ (got .result) (after-put-head .put-head .ensures) (c .before .before .put-lines .ensures) (short .0) (short .3) (held (short .2) (short .3)))
 
 pub put-sheet-spec : {M : Type 1} → statement M
 put-sheet-spec =

@@ -4,6 +4,7 @@ use Prim.Native.Nat.{ℕ, _+_, _-_, _≤_}
 use native.Mathlib.Omega.{arith}
 use mathlib.Core.List.{List}
 use lib.ListN.{length, getD}
+use Rattle.comparison.specs.Sizes.{writtenSpace, linePlaces}
 use Rattle.comparison.specs.Lines.{Entry, Downward, HoldsLines}
 use Rattle.comparison.specs.Needed.{AllStand, Closed, Copied}
 use Rattle.comparison.proofs.NeededLines.{copied-none, copied-skipped, copied-line}
@@ -13,7 +14,7 @@ use Rattle.comparison.proofs.needed.copy_needed.Tie as tie
 
 abbrev Inv-loop : tie.InvT-loop
 Inv-loop words j same needed out₀ number₀ count₀ i₀ out number count i =
-    (i ≤ j) × (count ≤ i) × (length number ≡ 1024) × (length out ≡ 5632)
+    (i ≤ j) × (count ≤ i) × (length number ≡ linePlaces) × (length out ≡ writtenSpace)
     × ((a : ℕ) (ls : List Entry) → Downward a ls → HoldsLines words ls → j ≤ length ls → AllStand ls (length ls) same → Closed ls same 0 j needed
     → Copied a ls same needed i number out count)
 
@@ -49,21 +50,24 @@ loop-less c = search needs
 
 loop-again : tie.Need-loop-again Inv-loop μ-loop
 loop-again c =
-    let x = c .before .before .before .before .before .before .before .before .before .before .before .args in
-    let at = c .before .before .before .before .before .before .before .before .before .before .loop in
+    let at-loop : tie.At-loop Inv-loop μ-loop = search in
+    let then1 : tie.Then1 Inv-loop μ-loop = search in
+    let after-renumbered : tie.After-renumbered Inv-loop μ-loop = search in
+    let x = at-loop .before .args in
+    let at = at-loop .loop in
     let wrote = c .before .before .write-line in
-    let was = c .before .before .before .before .before .before .before .before .get .ensures in
-    let need = c .before .before .before .before .before .before .before .if1 .taken in (
+    let was = then1 .before .get .ensures in
+    let need = then1 .if1 .taken in (
       search needs,
       search needs,
       c .put .ensures .0,
       wrote .ensures .size,
       λ a ls down holds inside stands closed.
-          let here = c .before .before .before .before .before .before .line-at .ensures ls holds (omega arith) in
+          let here = after-renumbered .before .before .line-at .ensures ls holds (omega arith) in
           let needed-here : 1 ≤ getD (x .needed .now) (at .i + 1) 0 = omega arith in
           rw (c .put .ensures .1)
           (copied-line a ls down (x .same .now) (x .needed .now) stands (at .i) (omega arith) (omega arith) (at .number) (at .out) (at .count) (at .inv .2) (at .inv .4 a ls down holds inside stands closed)
-          needed-here (closed .each (at .i + 1) (omega arith) (omega arith) needed-here) _ (rw (here, ← c .before .before .before .before .renumbered .ensures) (wrote .ensures))),
+          needed-here (closed .each (at .i + 1) (omega arith) (omega arith) needed-here) _ (rw (here, ← after-renumbered .renumbered .ensures) (wrote .ensures))),
     )
 
 loop-less-2 : tie.Need-loop-less-2 Inv-loop μ-loop
@@ -71,7 +75,8 @@ loop-less-2 c = search needs
 
 loop-again-2 : tie.Need-loop-again-2 Inv-loop μ-loop
 loop-again-2 c =
-    let x = c .before .before .before .before .args in
+    let at-start : tie.Start Inv-loop μ-loop = search in
+    let x = at-start .args in
     let at = c .before .before .before .loop in (
       search needs,
       search needs,

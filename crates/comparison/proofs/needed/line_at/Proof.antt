@@ -38,22 +38,26 @@ element-copy-out-y c = search needs
 
 returns : tie.Need-returns
 returns c =
-    let a = c .before .before .before .before .args in
+    let at-start : tie.Start = search in
+    let a = at-start .args in
     λ ls h hi. taken-signal (a .words .now) (a .i) _ (omega arith) refl ls h hi (c .match .keys1)
 
 returns-2 : tie.Need-returns-2
 returns-2 c =
-    let a = c .before .before .before .before .args in
+    let at-start : tie.Start = search in
+    let a = at-start .args in
     λ ls h hi. taken-not (a .words .now) (a .i) _ (omega arith) refl ls h hi (c .match .keys2)
 
 returns-3 : tie.Need-returns-3
 returns-3 c =
-    let a = c .before .before .before .before .args in
+    let at-start : tie.Start = search in
+    let a = at-start .args in
     λ ls h hi. taken-or (a .words .now) (a .i) _ (omega arith) refl ls h hi (c .match .keys3)
 
 returns-4 : tie.Need-returns-4
 returns-4 c =
-    let a = c .before .before .before .before .args in
+    let at-start : tie.Start = search in
+    let a = at-start .args in
     λ ls h hi. taken-next (a .words .now) (a .i) _ (omega arith) refl ls h hi (omega arith)
 
 pub line-at-spec : {M : Type 1} → statement M

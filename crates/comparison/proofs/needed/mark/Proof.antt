@@ -4,16 +4,17 @@ use Prim.Native.Nat.{ℕ, _-_, _≤_}
 use native.Mathlib.Omega.{arith}
 use mathlib.Core.List.{List}
 use lib.ListN.{length}
+use Rattle.comparison.specs.Sizes.{linePlaces}
 use Rattle.comparison.specs.Lines.{Entry, Downward, HoldsLines}
 use Rattle.comparison.specs.Needed.{AllStand, Closed}
-use Rattle.comparison.proofs.NeededLines.{length-marks, closed-none, closed-skipped, closed-line}
+use Rattle.comparison.proofs.NeededMarks.{length-marks, closed-none, closed-skipped, closed-line}
 use borrow.Author.Needs.{needs}
 use Rattle.comparison.proofs.needed.mark.Statement.{statement}
 use Rattle.comparison.proofs.needed.mark.Tie as tie
 
 abbrev Inv-loop : tie.InvT-loop
 Inv-loop words j same needed₀ i₀ needed i =
-    (i ≤ j) × (length needed ≡ 1024)
+    (i ≤ j) × (length needed ≡ linePlaces)
     × ((a : ℕ) (ls : List Entry) → Downward a ls → HoldsLines words ls → j ≤ length ls → AllStand ls (length ls) same → Closed ls same i j needed)
 
 abbrev μ-loop : tie.MeasureT-loop
@@ -48,9 +49,12 @@ loop-less c = search needs
 
 loop-again : tie.Need-loop-again Inv-loop μ-loop
 loop-again c =
-    let x = c .before .before .before .before .before .before .before .before .before .before .args in
-    let at = c .before .before .before .before .before .before .before .loop in
-    let was = c .before .before .before .before .get .ensures in
+    let at-start : tie.Start Inv-loop μ-loop = search in
+    let at-loop : tie.At-loop Inv-loop μ-loop = search in
+    let after-get : tie.After-get Inv-loop μ-loop = search in
+    let x = at-start .args in
+    let at = at-loop .loop in
+    let was = after-get .get .ensures in
     let need = c .before .before .before .if1 .taken in
     let n = at .i - 1 in (
       search needs,
@@ -65,8 +69,10 @@ loop-less-2 c = search needs
 
 loop-again-2 : tie.Need-loop-again-2 Inv-loop μ-loop
 loop-again-2 c =
-    let x = c .before .before .before .before .before .before .before .args in
-    let at = c .before .before .before .before .loop in
+    let at-start : tie.Start Inv-loop μ-loop = search in
+    let at-loop : tie.At-loop Inv-loop μ-loop = search in
+    let x = at-start .args in
+    let at = at-loop .loop in
     let n = at .i - 1 in (
       search needs,
       at .inv .1,

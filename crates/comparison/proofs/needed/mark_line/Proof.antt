@@ -50,15 +50,18 @@ returns c = rw (c .enum-told .given .1)
 
 returns-2 : tie.Need-returns-2
 unfolding marks
-returns-2 c = rw (c .before .before .before .before .line .given .1, ← c .before .get .ensures) (c .put .ensures .1)
+returns-2 c = let after-line : tie.After-line = search in rw (after-line .line .given .1, ← c .before .get .ensures) (c .put .ensures .1)
 
 returns-3 : tie.Need-returns-3
 unfolding marks
-returns-3 c = rw (c .before .before .before .before .before .before .before .line2 .given .1, ← c .before .before .before .before .get2 .ensures, ← c .before .get3 .ensures) (c .put3 .ensures .1 ∙ ap (λ (l : List ℕ). set l (c .before .get3 .result) 1) (c .before .before .before .put2 .ensures .1))
+returns-3 c =
+    let after-line2 : tie.After-line2 = search in
+    let after-get2 : tie.After-get2 = search in
+    rw (after-line2 .line2 .given .1, ← after-get2 .get2 .ensures, ← c .before .get3 .ensures) (c .put3 .ensures .1 ∙ ap (λ (l : List ℕ). set l (c .before .get3 .result) 1) (c .before .before .before .put2 .ensures .1))
 
 returns-4 : tie.Need-returns-4
 unfolding marks
-returns-4 c = rw (c .before .before .before .before .line3 .given .1, ← c .before .get4 .ensures) (c .put4 .ensures .1)
+returns-4 c = let after-line3 : tie.After-line3 = search in rw (after-line3 .line3 .given .1, ← c .before .get4 .ensures) (c .put4 .ensures .1)
 
 pub mark-line-spec : {M : Type 1} → statement M
 mark-line-spec =

@@ -4,6 +4,7 @@ use Prim.Native.Nat.{ℕ, _+_, _-_, _≤_}
 use native.Mathlib.Omega.{arith}
 use mathlib.Core.List.{List, []}
 use lib.ListN.{length}
+use Rattle.comparison.specs.Sizes.{linePlaces}
 use Rattle.comparison.specs.Lines.{Entry, Downward, HoldsLines}
 use Rattle.comparison.specs.Needed.{Merged}
 use Rattle.comparison.proofs.Lines.{padded}
@@ -14,7 +15,7 @@ use Rattle.comparison.proofs.needed.merge.Tie as tie
 
 abbrev Inv-loop : tie.InvT-loop
 Inv-loop words n same₀ other₀ nexts₀ top₀ i₀ same other nexts top i =
-    (i ≤ n) × (length same ≡ 1024) × (length other ≡ 1024) × (length nexts ≡ 1024) × ((a : ℕ) (ls : List Entry) → Downward a ls → HoldsLines words ls → n ≤ length ls → Merged ls i same other nexts top)
+    (i ≤ n) × (length same ≡ linePlaces) × (length other ≡ linePlaces) × (length nexts ≡ linePlaces) × ((a : ℕ) (ls : List Entry) → Downward a ls → HoldsLines words ls → n ≤ length ls → Merged ls i same other nexts top)
 
 abbrev μ-loop : tie.MeasureT-loop
 μ-loop words n same₀ other₀ nexts₀ top₀ i₀ same other nexts top i = n - i
@@ -25,7 +26,7 @@ loop-holds c = (
   search needs,
   refl,
   refl,
-  λ a ls down holds inside. merged-none ls (c .args .same .now) _ _ (λ k. padded [] 1024 k (omega arith)) (λ k. padded [] 1024 k (omega arith)),
+  λ a ls down holds inside. merged-none ls (c .args .same .now) _ _ (λ k. padded [] linePlaces k (omega arith)) (λ k. padded [] linePlaces k (omega arith)),
 )
 
 add-i : tie.Need-add-i Inv-loop μ-loop
@@ -42,7 +43,8 @@ loop-less c = search needs
 
 loop-again : tie.Need-loop-again Inv-loop μ-loop
 loop-again c =
-    let at = c .before .before .before .before .before .before .loop in
+    let after-line-at : tie.After-line-at Inv-loop μ-loop = search in
+    let at = after-line-at .before .before .loop in
     let e : at .i + 1 - 1 ≡ at .i = omega arith in
     let got = c .merge-line .ensures in (
       search needs,
@@ -51,7 +53,7 @@ loop-again c =
       got .2,
       λ a ls down holds inside.
           let here : at .i + 1 ≤ length ls = omega arith in
-          got .3 a ls down here (c .before .before .before .before .line-at .ensures ls holds here) (rw e (at .inv .4 a ls down holds inside)),
+          got .3 a ls down here (after-line-at .line-at .ensures ls holds here) (rw e (at .inv .4 a ls down holds inside)),
     )
 
 returns : tie.Need-returns Inv-loop μ-loop

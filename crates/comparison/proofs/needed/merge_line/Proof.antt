@@ -58,7 +58,8 @@ put-requires-4 c κs = search needs
 
 returns : tie.Need-returns
 returns c =
-    let x = c .before .before .before .before .args in (
+    let at-start : tie.Start = search in
+    let x = at-start .args in (
       c .put .ensures .0,
       search needs,
       search needs,
@@ -68,37 +69,44 @@ returns c =
 
 returns-2 : tie.Need-returns-2
 returns-2 c =
-    let x = c .before .before .before .before .before .before .before .before .before .args in
+    let after-line : tie.After-line = search in
+    let after-get : tie.After-get = search in
+    let x = after-line .before .before .args in
     let got = c .before .before .opposite in (
       c .put2 .ensures .0,
       kept-length (x .other .now) _ _ _ _ (search needs) (got .ensures),
       search needs,
       λ a ls down inside e m.
           next-not a ls down (x .i - 1) (x .i) (omega arith) inside (omega arith) (x .same .now) (x .other .now) (x .nexts .now) _ (x .top) (search needs) (search needs) (search needs) m
-          _ _ _ _ (e ∙ ap entryOf (c .before .before .before .before .before .before .before .line .given .1)) (c .before .before .before .before .get .ensures) (got .ensures) (c .put2 .ensures .1),
+          _ _ _ _ (e ∙ ap entryOf (after-line .line .given .1)) (after-get .get .ensures) (got .ensures) (c .put2 .ensures .1),
     )
 
 returns-3 : tie.Need-returns-3
 returns-3 c =
-    let x = c .before .before .before .before .before .before .before .before .before .before .before .before .before .args in (
+    let after-line2 : tie.After-line2 = search in
+    let after-get2 : tie.After-get2 = search in
+    let after-either : tie.After-either = search in
+    let x = after-line2 .before .before .args in (
       c .before .before .put3 .ensures .0,
       search needs,
       search needs,
       λ a ls down inside e m.
           next-or a ls down (x .i - 1) (x .i) (omega arith) inside (omega arith) (x .same .now) (x .other .now) (x .nexts .now) _ (x .top) (search needs) (search needs) (search needs) m
-          _ _ _ _ _ _ (e ∙ ap entryOf (c .before .before .before .before .before .before .before .before .before .before .before .line2 .given .1)) (c .before .before .before .before .before .before .before .before .get2 .ensures) (c .before .before .before .before .before .before .get3 .ensures) (c .before .before .before .before .either .ensures) (c .top-after .ensures) (c .before .before .put3 .ensures .1),
+          _ _ _ _ _ _ (e ∙ ap entryOf (after-line2 .line2 .given .1)) (after-get2 .get2 .ensures) (after-either .before .before .get3 .ensures) (after-either .either .ensures) (c .top-after .ensures) (c .before .before .put3 .ensures .1),
     )
 
 returns-4 : tie.Need-returns-4
 returns-4 c =
-    let x = c .before .before .before .before .before .before .before .before .before .args in
+    let after-line3 : tie.After-line3 = search in
+    let after-get4 : tie.After-get4 = search in
+    let x = after-line3 .before .before .args in
     let got = c .before .before .next-line in (
       c .put4 .ensures .0,
       search needs,
       kept-next-length (x .nexts .now) _ _ _ _ (search needs) (got .ensures),
       λ a ls down inside e m.
           next-next a ls down (x .i - 1) (x .i) (omega arith) inside (omega arith) (x .same .now) (x .other .now) (x .nexts .now) _ (x .top) (search needs) (search needs) (search needs) m
-          _ _ _ _ (e ∙ ap entryOf (c .before .before .before .before .before .before .before .line3 .given .1)) (c .before .before .before .before .get4 .ensures) (got .ensures) (c .put4 .ensures .1),
+          _ _ _ _ (e ∙ ap entryOf (after-line3 .line3 .given .1)) (after-get4 .get4 .ensures) (got .ensures) (c .put4 .ensures .1),
     )
 
 pub merge-line-spec : {M : Type 1} → statement M

@@ -22,7 +22,9 @@ put-requires-2 : tie.Need-put-requires-2
 put-requires-2 c κs = search needs
 
 returns-2 : tie.Need-returns-2
-returns-2 c = inr (refl, c .put2 .ensures .1 ∙ ap (λ (l : List ℕ). set l (c .before .before .before .before .before .before .before .args .i) (c .before .before .before .before .before .before .before .args .j)) (c .before .before .put .ensures .1))
+returns-2 c =
+    let at-start : tie.Start = search in
+    inr (refl, c .put2 .ensures .1 ∙ ap (λ (l : List ℕ). set l (at-start .args .i) (at-start .args .j)) (c .before .before .put .ensures .1))
 
 pub opposite-spec : {M : Type 1} → statement M
 opposite-spec = tie.close (tie.spec get-requires returns put-requires put-requires-2 returns-2)

@@ -50,7 +50,9 @@ returns-2 c = rw (c .before .before .before .line2 .given .1, ← c .before .get
 
 returns-3 : tie.Need-returns-3
 unfolding renumber
-returns-3 c = rw (c .before .before .before .before .before .line3 .given .1, ← c .before .before .before .get3 .ensures, ← c .before .before .get4 .ensures, ← c .before .get5 .ensures, ← c .get6 .ensures)
+returns-3 c =
+    let after-line3 : tie.After-line3 = search in
+    rw (after-line3 .line3 .given .1, ← c .before .before .before .get3 .ensures, ← c .before .before .get4 .ensures, ← c .before .get5 .ensures, ← c .get6 .ensures)
 
 returns-4 : tie.Need-returns-4
 unfolding renumber

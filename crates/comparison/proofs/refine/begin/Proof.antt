@@ -11,7 +11,7 @@ signals-requires c κs = search needs
 
 write-first-lines-requires : tie.Need-write-first-lines-requires
 write-first-lines-requires c κs =
-    let start = c .before .before .before .before in
+    let start : tie.Start = search in
     omega (arith, signals-sized (start .args .m1 .now) (start .pre .0), c .before .signals .ensures)
 
 nodes-requires : tie.Need-nodes-requires
@@ -34,8 +34,8 @@ store-requires-2 c κs = search needs
 
 add-line : tie.Need-add-line
 add-line c =
-    let first = c .before .before .before .before .before .before .before .before in
-    let start = first .before .before .before .before .before in
+    let first : tie.After-write-first = search in
+    let start : tie.Start = search in
     omega (arith, signals-sized (start .args .m1 .now) (start .pre .0), first .before .before .signals .ensures)
 
 element-write-line : tie.Need-element-write-line

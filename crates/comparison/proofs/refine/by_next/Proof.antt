@@ -28,20 +28,27 @@ leading-requires-2 : tie.Need-leading-requires-2
 leading-requires-2 c κs = search needs
 
 add-p : tie.Need-add-p
-add-p c = omega (arith, c .before .before .before .before .before .before .before .before .before .before .before .before .before .pre .1 .lines)
+add-p c = let at-start : tie.Start = search in omega (arith, at-start .pre .1 .lines)
 
 split-block-requires : tie.Need-split-block-requires
-split-block-requires c κs = c .before .before .before .before .before .before .before .before .before .before .before .before .before .before .before .before .before .pre .1
+split-block-requires c κs = let at-start : tie.Start = search in at-start .pre .1
+
+-- the start, from the second row that is loaded
+abbrev start : tie.After-load2 → tie.Start
+start c = search
 
 returns : tie.Need-returns
 returns c =
-    let a = c .before .before .before .before .before .before .before .before .before .before .before .before .before .before .before .before .before .before .args in
-    let l = c .before .before .before .before .before .before .before .before .before .before .before .before .before .before .load in
-    let l′ = c .before .before .before .before .before .before .before .before .before .before .before .before .load2 in
-    let one = c .before .before .before .before .before .before .before .before .before .before .before .leading in
-    let k = c .before .before .before .before .before .before .before .before .before .load3 in
-    let k′ = c .before .before .before .before .before .before .before .load4 in
-    let two = c .before .before .before .before .before .before .leading2 in
+    let after-leading2 : tie.After-leading2 = search in
+    let after-load3 = after-leading2 .before .before .before in
+    let after-load2 = after-load3 .before .before .before in
+    let a = start after-load2 .args in
+    let l = after-load2 .before .before .load in
+    let l′ = after-load2 .load2 in
+    let one = after-load3 .before .before .leading in
+    let k = after-load3 .load3 in
+    let k′ = after-leading2 .before .load4 in
+    let two = after-leading2 .leading2 in
     split-within (written (state (a .first .now) (a .second .now) (a .line .now) (a .words .now) (a .stand)) (a .words .now)) _ (a .c) _ (rowHas (one .result)) (rowHas (two .result))
     (leadsInto (a .m1 .now) (rowsHas (a .first .now) (a .d))) (leadsInto (a .m2 .now) (rowsHas (a .second .now) (a .d)))
     (λ s. one .ensures s ∙ loaded-leading (a .m1 .now) (a .first .now) (l .result) (l′ .result) (a .c) (a .d) s (l .ensures) (l′ .ensures))

@@ -18,7 +18,7 @@ abbrev row₂ : tie.After-next-split → tie.After-signal-row2
 row₂ c = c .before .before .before
 
 abbrev start : tie.After-next-split → tie.Start
-start c = row₂ c .before .before .before .before
+start c = search
 
 starts : (c : tie.After-next-split)
     → let a = start c .args in Starts (a .m1 .now) (a .m2 .now) (entry (start c)) (c .next-split .result) (a .i) (rowHas (row₂ c .before .signal-row .result)) (rowHas (row₂ c .signal-row2 .result))
@@ -37,18 +37,18 @@ signal-row-requires-2 c κs = search needs
 
 next-split-requires : tie.Need-next-split-requires
 next-split-requires c κs =
-    let s = c .before .before .before .before .before .before in
+    let s : tie.Start = search in
     omega (arith, blocks-fit (s .args .m1 .now) (s .args .m2 .now) 5 (entry s) (s .pre .0))
 
 divide-requires : tie.Need-divide-requires
 divide-requires c κs =
-    let found = c .before .before .before .before in
+    let found : tie.After-next-split = search in
     record { M₁ = start found .args .m1 .now; M₂ = start found .args .m2 .now; starts = starts found }
 
 returns : tie.Need-returns
 unfolding kripke
 returns c =
-    let found = c .before .before .before .before .before in
+    let found : tie.After-next-split = search in
     let a = start found .args in
     let l = c .divide .last in
     divided-rows (a .m1 .now) (a .m2 .now) (entry (start found)) (start found .pre .0) (kripke (a .m1 .now) .signal (a .i)) (kripke (a .m2 .now) .signal (a .i)) _ _

@@ -26,23 +26,25 @@ add-i c = search needs
 
 by-signal-requires : tie.Need-by-signal-requires Inv-loop μ-loop
 by-signal-requires c κs =
-    let turn = c .before .before .before .before in
+    let turn : tie.In-loop Inv-loop μ-loop = search in
     let at = turn .before in
     (at .loop .inv .1 .staged, omega arith, omega (arith, turn .loop-test .taken, at .before .signals .ensures))
 
 loop-less : tie.Need-loop-less Inv-loop μ-loop
-loop-less c = omega (arith, c .before .before .before .before .before .loop-test .taken)
+loop-less c = let in-loop : tie.In-loop Inv-loop μ-loop = search in omega (arith, in-loop .loop-test .taken)
 
 loop-again : tie.Need-loop-again Inv-loop μ-loop
-loop-again c = (
-  omega (arith, c .before .before .before .before .before .loop-test .taken),
-  signals-more _ _ _ _ _ (c .before .before .before .before .before .before .loop .inv .1) (c .by-signal .ensures),
-)
+loop-again c =
+    let in-loop : tie.In-loop Inv-loop μ-loop = search in (
+      omega (arith, in-loop .loop-test .taken),
+      signals-more _ _ _ _ _ (in-loop .before .loop .inv .1) (c .by-signal .ensures),
+    )
 
 returns : tie.Need-returns Inv-loop μ-loop
 returns c =
+    let at-start : tie.Start Inv-loop μ-loop = search in
     let at = c .before in
-    let e : at .loop .i ≡ signals (at .before .before .before .before .args .m1 .now) =
+    let e : at .loop .i ≡ signals (at-start .args .m1 .now) =
     omega (arith, at .before .signals .ensures, c .loop-test .left, at .loop .inv .0) in
     signals-all _ _ _ _ e (at .loop .inv .1)
 

@@ -3,6 +3,7 @@
 use Prim.Native.Nat.{ℕ, _-_, _≤_}
 use native.Mathlib.Omega.{arith}
 use mathlib.Core.List.{List, []}
+use Rattle.truth.specs.Passed.{nodesMost}
 use Rattle.truth.specs.Rows.{rowHas}
 use Rattle.comparison.specs.Tables.{State, state, Room}
 use Rattle.comparison.specs.Stages.{Starts}
@@ -26,7 +27,7 @@ entry c = state (c .args .first .now) (c .args .second .now) (c .args .line .now
 abbrev present : tie.At-loop Inv-loop μ-loop → State
 present c = state (c .loop .first) (c .loop .second) (c .loop .line) (c .loop .words) (c .loop .so-far)
 
-few : (c : tie.Start Inv-loop μ-loop) → c .args .stand .count ≤ 128
+few : (c : tie.Start Inv-loop μ-loop) → c .args .stand .count ≤ nodesMost
 few c = let w = c .pre .starts in blocks-fit (c .pre .M₁) (c .pre .M₂) (w .spare) (entry c) (w .ready .staged)
 
 room : (c : tie.In-loop Inv-loop μ-loop) → Room (present (c .before)) (c .before .loop .b)
@@ -41,13 +42,13 @@ loop-holds : tie.Need-loop-holds Inv-loop μ-loop
 loop-holds c M₁ M₂ s = let a = c .args in dividing-none M₁ M₂ (entry c) (a .p) (rowHas (a .x1)) (rowHas (a .x2)) (a .c) s
 
 split-block-requires : tie.Need-split-block-requires Inv-loop μ-loop
-split-block-requires c κs = room (c .before .before .before .before)
+split-block-requires c κs = let in-loop : tie.In-loop Inv-loop μ-loop = search in room in-loop
 
 add-next-split : tie.Need-add-next-split Inv-loop μ-loop
-add-next-split c = omega (arith, few (c .before .before .before .before .before .before .before .before .before))
+add-next-split c = let at-start : tie.Start Inv-loop μ-loop = search in omega (arith, few at-start)
 
 next-split-requires : tie.Need-next-split-requires Inv-loop μ-loop
-next-split-requires c κs = omega (arith, few (c .before .before .before .before .before .before .before .before .before))
+next-split-requires c κs = let at-start : tie.Start Inv-loop μ-loop = search in omega (arith, few at-start)
 
 loop-less : tie.Need-loop-less Inv-loop μ-loop
 loop-less c = omega (arith, c .next-split .ensures [] [] .low)
@@ -55,7 +56,7 @@ loop-less c = omega (arith, c .next-split .ensures [] [] .low)
 loop-again : tie.Need-loop-again Inv-loop μ-loop
 loop-again c M₁ M₂ s =
     let split = c .before .before .before in
-    let turn = split .before .before .before .before .before in
+    let turn : tie.In-loop Inv-loop μ-loop = search in
     let start = turn .before .before in
     let a = start .args in
     let l = split .split-block .last in

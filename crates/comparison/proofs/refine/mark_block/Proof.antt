@@ -3,7 +3,7 @@ use borrow.Author.Needs.{needs}
 use mathlib.Core.Path.{refl}
 use Rattle.truth.specs.Rows.{rowHas, rowsHas}
 use Rattle.truth.proofs.tables.TableLaws.{loaded}
-use Rattle.comparison.proofs.Surveys.{marked-as}
+use Rattle.comparison.proofs.MarkedNodes.{marked-as}
 use Rattle.comparison.proofs.refine.mark_block.Statement.{statement}
 use Rattle.comparison.proofs.refine.mark_block.Tie as tie
 
@@ -27,8 +27,9 @@ mark-row-requires-2 c κs = search needs
 
 returns : tie.Need-returns
 returns c =
-    let a = c .before .before .before .before .before .before .args in
-    let l = c .before .before .before .before .load in
+    let after-load : tie.After-load = search in
+    let a = after-load .before .before .args in
+    let l = after-load .load in
     let k = c .before .load2 in (
       marked-as (rowHas (l .result)) (rowsHas (a .first .now) (a .c)) _ _ _ (λ s. loaded (a .first .now) (l .result) (a .c) (a .c) s (l .ensures) refl) (c .before .before .before .mark-row .ensures),
       marked-as (rowHas (k .result)) (rowsHas (a .second .now) (a .c)) _ _ _ (λ s. loaded (a .second .now) (k .result) (a .c) (a .c) s (k .ensures) refl) (c .mark-row2 .ensures),

@@ -40,8 +40,9 @@ loop-less c = search needs
 
 loop-again : tie.Need-loop-again Inv-loop μ-loop
 loop-again c =
+    let at-start : tie.Start Inv-loop μ-loop = search in
     let at = c .before .before .before .loop in
-    let a = c .before .before .before .before .args in (
+    let a = at-start .args in (
       omega arith,
       omega arith,
       λ M₁ M₂.

@@ -25,7 +25,8 @@ is-empty-requires c κs = search needs
 
 returns-3 : tie.Need-returns-3
 returns-3 c =
-    let a = c .before .before .before .before .before .before .args in
+    let at-start : tie.Start = search in
+    let a = at-start .args in
     let two = c .before .before .before .at-most-one2 in
     let none = none-passes (rowHas (a .row1)) (held-in (a .row1 .low) (a .row1 .high)) (sym (c .before .is-empty .ensures) ∙ c .if3 .taken) in
     λ e. record {
@@ -40,13 +41,14 @@ is-empty-requires-2 c κs = search needs
 
 returns-4 : tie.Need-returns-4
 returns-4 c =
-    let a = c .before .before .before .before .before .before .before .args in
-    let one = c .before .before .before .before .before .before .at-most-one in
+    let else1 : tie.Else1 = search in
+    let a = else1 .before .before .args in
+    let one = else1 .before .at-most-one in
     λ e.
     let none = none-passes (rowHas (a .row2)) (held-in (a .row2 .low) (a .row2 .high)) (sym (c .is-empty2 .ensures) ∙ e) in
     record {
       node = one .ensures .node;
-      first = one .ensures .only (not-false (one .result) (c .before .before .before .before .before .if1 .left));
+      first = one .ensures .only (not-false (one .result) (else1 .if1 .left));
       second = λ s t. absurd (none s t);
       apart = λ s t x y. none t y;
     }

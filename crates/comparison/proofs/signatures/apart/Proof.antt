@@ -19,7 +19,8 @@ first-requires c κs = search needs
 
 returns : tie.Need-returns
 returns c =
-    let a = c .before .before .before .before .args in
+    let at-start : tie.Start = search in
+    let a = at-start .args in
     let d = c .before .before .before .difference in
     let f = c .before .before .difference2 in
     let u = c .before .union in

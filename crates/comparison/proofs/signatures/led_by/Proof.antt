@@ -14,8 +14,9 @@ last-requires c κs = search needs
 marks-into-requires : tie.Need-marks-into-requires
 unfolding MarksIn
 marks-into-requires c κs =
+    let at-start : tie.Start = search in
     let f = c .before .last in
-    let pre = c .before .before .before .before .pre in
+    let pre = at-start .pre in
     (λ e t. pre .0 (f .result) e (one-left _ _ (f .ensures) (c .if1 .taken)) t, pre .2)
 
 without-requires : tie.Need-without-requires
@@ -23,8 +24,9 @@ without-requires c κs = search needs
 
 returns : tie.Need-returns
 returns c =
+    let at-start : tie.Start = search in
     let f = c .before .before .before .last in
-    let a = c .before .before .before .before .before .before .args in
+    let a = at-start .args in
     led-first _ _ _ _ (rowHas (a .row1)) (rowHas (a .row2)) (c .before .marks-into .result) (c .without .result) (a .row2) (f .result)
     (one-left _ _ (f .ensures) (c .before .before .if1 .taken)) (c .before .marks-into .ensures) (c .without .ensures) (λ t. refl)
 
@@ -34,8 +36,9 @@ last-requires-2 c κs = search needs
 marks-into-requires-2 : tie.Need-marks-into-requires-2
 unfolding MarksIn
 marks-into-requires-2 c κs =
+    let at-start : tie.Start = search in
     let f = c .before .last2 in
-    let pre = c .before .before .before .before .before .before .pre in
+    let pre = at-start .pre in
     (λ e t. pre .1 (f .result) e (one-left _ _ (f .ensures) (c .if2 .taken)) t, pre .3)
 
 without-requires-2 : tie.Need-without-requires-2
@@ -43,14 +46,16 @@ without-requires-2 c κs = search needs
 
 returns-2 : tie.Need-returns-2
 returns-2 c =
+    let at-start : tie.Start = search in
     let f = c .before .before .before .last2 in
-    let a = c .before .before .before .before .before .before .before .before .args in
+    let a = at-start .args in
     led-second _ _ _ _ (rowHas (a .row1)) (rowHas (a .row2)) (c .before .marks-into2 .result) (a .row1) (c .without2 .result) (f .result)
     (one-left _ _ (f .ensures) (c .before .before .if2 .taken)) (c .before .marks-into2 .ensures) (c .without2 .ensures) (λ t. refl)
 
 returns-3 : tie.Need-returns-3
 returns-3 c =
-    let a = c .before .before .before .before .before .before .args in
+    let at-start : tie.Start = search in
+    let a = at-start .args in
     led-none _ _ _ _ (rowHas (a .row1)) (rowHas (a .row2)) _ (a .row1) (a .row2) (none-left _ _ (c .before .before .before .last .ensures) (c .before .before .if1 .left))
     (none-left _ _ (c .before .last2 .ensures) (c .if2 .left)) (λ t. refl) (λ t. refl)
 

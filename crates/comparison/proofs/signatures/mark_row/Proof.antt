@@ -2,9 +2,10 @@
 use borrow.Author.Needs.{needs}
 use mathlib.Core.Path.{refl}
 use native.Mathlib.Omega.{arith}
+use Rattle.truth.specs.Sizes.{membersMost}
 use Rattle.truth.specs.Rows.{rowHas, tally}
 use Rattle.truth.proofs.rows.RowWalks.{none-left, one-left, one-within}
-use Rattle.comparison.proofs.Surveys.{left-falls, Marking, marking-none, marking-next, marking-end}
+use Rattle.comparison.proofs.MarkedNodes.{left-falls, Marking, marking-none, marking-next, marking-end}
 use Rattle.comparison.proofs.signatures.mark_row.Statement.{statement}
 use Rattle.comparison.proofs.signatures.mark_row.Tie as tie
 
@@ -12,7 +13,7 @@ abbrev Inv-loop : tie.InvT-loop
 Inv-loop mark₀ e left₀ mark left = Marking (rowHas left₀) e mark₀ mark (rowHas left)
 
 abbrev μ-loop : tie.MeasureT-loop
-μ-loop mark₀ e left₀ mark left = tally 128 (rowHas left)
+μ-loop mark₀ e left₀ mark left = tally membersMost (rowHas left)
 
 loop-holds : tie.Need-loop-holds Inv-loop μ-loop
 loop-holds c = marking-none _ _ _ (c .pre)

@@ -12,7 +12,8 @@ alone-requires c κs = search needs
 
 returns : tie.Need-returns
 returns c m₁ m₂ d e₁ e₂ =
-    let a = c .before .before .before .before .args in
+    let at-start : tie.Start = search in
+    let a = at-start .args in
     mark-alone (a .m1 .now) (a .m2 .now) m₁ m₂ d (rowHas (a .row1)) (rowHas (a .row2)) e₁ e₂ (a .mark1 .now) (a .mark2 .now) (c .before .alone .ensures (c .if1 .taken))
 
 led-by-requires : tie.Need-led-by-requires
@@ -21,12 +22,14 @@ led-by-requires c κs = search needs
 unlike-requires : tie.Need-unlike-requires
 unfolding MarksIn
 unlike-requires c κs =
-    let pre = c .before .before .before .before .before .pre in
+    let at-start : tie.Start = search in
+    let pre = at-start .pre in
     (λ s e i x. pre .0 s e (c .led-by .ensures .fewer₁ s i) x, pre .2)
 
 returns-2 : tie.Need-returns-2
 returns-2 c m₁ m₂ d e₁ e₂ =
-    let a = c .before .before .before .before .before .before .before .args in
+    let at-start : tie.Start = search in
+    let a = at-start .args in
     let l = c .before .before .led-by in
     unlike-first (a .m1 .now) (a .m2 .now) (a .mark1 .now) (a .mark2 .now) (rowHas (a .row1)) (rowHas (a .row2)) (l .result) (l .ensures) m₁ m₂ d e₁ e₂
     (λ s t. held-in (a .row1 .low) (a .row1 .high) s t .0) (λ s t. held-in (a .row2 .low) (a .row2 .high) s t .0)
@@ -35,12 +38,14 @@ returns-2 c m₁ m₂ d e₁ e₂ =
 unlike-requires-2 : tie.Need-unlike-requires-2
 unfolding MarksIn
 unlike-requires-2 c κs =
-    let pre = c .before .before .before .before .before .before .before .pre in
+    let at-start : tie.Start = search in
+    let pre = at-start .pre in
     (λ s e i x. pre .1 s e (c .before .before .led-by .ensures .fewer₂ s i) x, pre .3)
 
 returns-3 : tie.Need-returns-3
 returns-3 c m₁ m₂ d e₁ e₂ =
-    let a = c .before .before .before .before .before .before .before .before .args in
+    let at-start : tie.Start = search in
+    let a = at-start .args in
     let l = c .before .before .before .led-by in
     let u = c .before .before .unlike in
     unlike-second (a .m1 .now) (a .m2 .now) (a .mark1 .now) (a .mark2 .now) (rowHas (a .row1)) (rowHas (a .row2)) (l .result) (l .ensures) m₁ m₂ d e₁ e₂

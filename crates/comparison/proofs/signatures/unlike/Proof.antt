@@ -1,10 +1,12 @@
 -- `unlike` meets its contract. The invariant: the nodes that are not left have the signature l. The measure is how many are left.
 use borrow.Author.Needs.{needs}
 use mathlib.Core.Path.{sym, _∙_}
+use Rattle.truth.specs.Sizes.{membersMost}
 use Rattle.truth.specs.Rows.{rowHas, tally}
 use Rattle.truth.proofs.rows.RowWalks.{none-left, one-left, one-within}
 use Rattle.comparison.specs.Signatures.{MarksIn}
-use Rattle.comparison.proofs.Surveys.{left-falls, Liked, liked-none, liked-next, liked-end, liked-not}
+use Rattle.comparison.proofs.Surveys.{Liked, liked-none, liked-next, liked-end, liked-not}
+use Rattle.comparison.proofs.MarkedNodes.{left-falls}
 use Rattle.comparison.proofs.signatures.unlike.Statement.{statement}
 use Rattle.comparison.proofs.signatures.unlike.Tie as tie
 
@@ -12,7 +14,7 @@ abbrev Inv-loop : tie.InvT-loop
 Inv-loop m mark all l tail left₀ left = Liked m mark (rowHas left₀) (rowHas l) (rowHas left)
 
 abbrev μ-loop : tie.MeasureT-loop
-μ-loop m mark all l tail left₀ left = tally 128 (rowHas left)
+μ-loop m mark all l tail left₀ left = tally membersMost (rowHas left)
 
 loop-holds : tie.Need-loop-holds Inv-loop μ-loop
 loop-holds c = liked-none _ _ _ _
@@ -26,8 +28,9 @@ returns c = liked-end _ _ _ _ _ (c .before .before .loop .inv) (none-left _ _ (c
 marks-into-requires : tie.Need-marks-into-requires Inv-loop μ-loop
 unfolding MarksIn
 marks-into-requires c κs =
+    let at-start : tie.Start Inv-loop μ-loop = search in
     let f = c .before .last in
-    let pre = c .before .before .before .before .pre in
+    let pre = at-start .pre in
     (λ e t. pre .0 (f .result) e (c .before .before .loop .inv .fewer (f .result) (one-left _ _ (f .ensures) (c .if1 .left))) t, pre .1)
 
 apart-requires : tie.Need-apart-requires Inv-loop μ-loop
@@ -35,9 +38,10 @@ apart-requires c κs = search needs
 
 returns-2 : tie.Need-returns-2 Inv-loop μ-loop
 returns-2 c =
-    let f = c .before .before .before .before .last in
+    let after-last : tie.After-last Inv-loop μ-loop = search in
+    let f = after-last .last in
     let e = c .before .apart in
-    liked-not _ _ _ _ _ (f .result) (e .result) (c .before .before .before .before .before .loop .inv) (one-left _ _ (f .ensures) (c .before .before .before .if1 .left)) (c .if2 .taken)
+    liked-not _ _ _ _ _ (f .result) (e .result) (after-last .before .loop .inv) (one-left _ _ (f .ensures) (c .before .before .before .if1 .left)) (c .if2 .taken)
     (sym (c .before .before .marks-into .ensures (e .result)) ∙ e .ensures .found (c .if2 .taken))
 
 without-requires : tie.Need-without-requires Inv-loop μ-loop
@@ -45,14 +49,16 @@ without-requires c κs = search needs
 
 loop-less : tie.Need-loop-less Inv-loop μ-loop
 loop-less c =
-    let n = c .before .before .before .before .if1 .left in
-    let f = c .before .before .before .before .before .last .ensures in
+    let else1 : tie.Else1 Inv-loop μ-loop = search in
+    let n = else1 .if1 .left in
+    let f = else1 .before .last .ensures in
     let r = one-within _ _ _ f n in
     left-falls _ _ _ (c .without .ensures) (r .0) (r .1) (one-left _ _ f n)
 
 loop-again : tie.Need-loop-again Inv-loop μ-loop
 loop-again c =
-    liked-next _ _ _ _ _ _ _ (c .before .before .before .before .before .before .loop .inv) (c .without .ensures)
+    let at-loop : tie.At-loop Inv-loop μ-loop = search in
+    liked-next _ _ _ _ _ _ _ (at-loop .loop .inv) (c .without .ensures)
     (λ e. sym (c .before .before .before .marks-into .ensures e) ∙ c .before .before .apart .ensures .none (c .before .if2 .left) e)
 
 pub unlike-spec : {M : Type 1} → statement M

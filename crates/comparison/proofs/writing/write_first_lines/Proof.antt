@@ -20,7 +20,9 @@ write-or-requires : tie.Need-write-or-requires
 write-or-requires c κs = search needs
 
 returns : tie.Need-returns
-returns c = holds-first _ _ _ _ (c .before .before .before .before .write-signals .ensures) (c .before .before .write-not .ensures) (c .write-or .ensures)
+returns c =
+    let after-write-signals : tie.After-write-signals = search in
+    holds-first _ _ _ _ (after-write-signals .write-signals .ensures) (c .before .before .write-not .ensures) (c .write-or .ensures)
 
 pub write-first-lines-spec : {M : Type 1} → statement M
 write-first-lines-spec =

@@ -3,6 +3,7 @@ use borrow.Author.Needs.{needs}
 use lib.ListN.{length, length-set}
 use native.Mathlib.Omega.{arith}
 use Prim.Native.Nat.{_+_, _*_, _≤_}
+use Rattle.truth.specs.Passed.{lineWords}
 use Rattle.comparison.proofs.HeldLines.{six-stored}
 use Rattle.comparison.proofs.writing.write_words.Statement.{statement}
 use Rattle.comparison.proofs.writing.write_words.Tie as tie
@@ -64,7 +65,7 @@ element-write-out-6 c = search needs
 returns : tie.Need-returns
 returns c =
     let a = c .args in
-    let h : 6 * a .n + 6 ≤ length (a .out .now) = omega arith in
+    let h : lineWords * a .n + lineWords ≤ length (a .out .now) = omega arith in
     (simp length-set (omega arith), six-stored _ _ _ _ _ _ _ _ h)
 
 pub write-words-spec : {M : Type 1} → statement M

@@ -1,7 +1,9 @@
 -- `explain_sheets` meets its contract: unequal, the part of the space that it lends is the written rule, whole.
 use mathlib.Core.Path.{sym}
+use mathlib.Core.Logic.{⊎-elim}
+use native.Mathlib.Omega.{arith}
 use lib.Seq.{length-take-le}
-use Rattle.explain.proofs.Explanations.{explained-refused, explained-equal, told-within, told-rule, explained-unequal}
+use Rattle.explain.proofs.Explanations.{explained-plain, told-within, told-rule, explained-unequal}
 use borrow.Author.Needs.{needs}
 use Rattle.explain.proofs.answer.explain_sheets.Statement.{statement}
 use Rattle.explain.proofs.answer.explain_sheets.Tie as tie
@@ -9,64 +11,55 @@ use Rattle.explain.proofs.answer.explain_sheets.Tie as tie
 compare-requires : tie.Need-compare-requires
 compare-requires c κs = search needs
 
-enum-known-answer : tie.Need-enum-known-answer
-enum-known-answer c = search needs
-
 enum-told : tie.Need-enum-told
 enum-told c = search needs
 
-enum-told-2 : tie.Need-enum-told-2
-enum-told-2 c = search needs
+plain-requires : tie.Need-plain-requires
+plain-requires c κs = search needs
+
+same-length : tie.Need-same-length
+same-length c = search needs
+
+-- the number of the answer's variant is not that of `Unequal`
+returns : tie.Need-returns
+returns c =
+    let call = c .before .before .before .before .compare in
+    explained-plain _ _ _ (call .last .1 .1 .0) (call .result) (call .ensures) _ (c .plain .ensures)
+    (λ e. ⊎-elim (λ z. omega arith) (λ z. omega arith) (rw e at (c .before .match .keys2)))
 
 rule-end-requires : tie.Need-rule-end-requires
 rule-end-requires c κs = search needs
 
 slice-reshare-prefix-judge : tie.Need-slice-reshare-prefix-judge
 slice-reshare-prefix-judge c =
-    let call = c .before .before .before .before .before .before .compare in
-    let unequal = c .before .before .enum-told2 .given .1 in
-    told-within _ _ _ (call .last .1 .1 .0) (call .result) (call .ensures) unequal (c .rule-end .result) (c .rule-end .ensures)
+    let unequal = c .before .before in
+    let call = unequal .before .before .before .before .compare in
+    told-within _ _ _ (call .last .1 .1 .0) (call .result) (call .ensures) (unequal .enum-told .given .1) (c .rule-end .result) (c .rule-end .ensures)
 
 slice-aggregate-judge : tie.Need-slice-aggregate-judge
 slice-aggregate-judge c =
-    let call = c .before .before .before .before .before .before .before .compare in
-    let unequal = c .before .before .before .enum-told2 .given .1 in
     let end = c .before .rule-end in
+    let unequal = c .before .before .before in
+    let call = unequal .before .before .before .before .compare in
     let after = call .last .1 .1 .0 in
-    sym (length-take-le (end .result) after (told-within _ _ _ after (call .result) (call .ensures) unequal (end .result) (end .ensures)))
+    sym (length-take-le (end .result) after (told-within _ _ _ after (call .result) (call .ensures) (unequal .enum-told .given .1) (end .result) (end .ensures)))
 
 judge-requires : tie.Need-judge-requires
 judge-requires c κs =
-    let call = c .before .before .before .before .before .before .before .compare in
-    let unequal = c .before .before .before .enum-told2 .given .1 in
     let end = c .before .rule-end in
-    told-rule _ _ _ (call .last .1 .1 .0) (call .result) (call .ensures) unequal (end .result) (end .ensures)
-
-same-length : tie.Need-same-length
-same-length c = search needs
-
-returns : tie.Need-returns
-returns c =
-    let call = c .before .before .before .before .before .compare in
-    explained-refused _ _ _ (call .last .1 .1 .0) (call .result) (call .ensures) _ _ (c .before .answer .given .1)
+    let unequal = c .before .before .before in
+    let call = unequal .before .before .before .before .compare in
+    told-rule _ _ _ (call .last .1 .1 .0) (call .result) (call .ensures) (unequal .enum-told .given .1) (end .result) (end .ensures)
 
 same-length-2 : tie.Need-same-length-2
 same-length-2 c = search needs
 
 returns-2 : tie.Need-returns-2
 returns-2 c =
-    let call = c .before .before .before .before .compare in
-    explained-equal _ _ _ (call .last .1 .1 .0) (call .result) (call .ensures) (c .enum-told .given .1)
-
-same-length-3 : tie.Need-same-length-3
-same-length-3 c = search needs
-
-returns-3 : tie.Need-returns-3
-returns-3 c =
-    let call = c .before .before .before .before .before .before .before .before .compare in
-    let unequal = c .before .before .before .before .enum-told2 .given .1 in
     let end = c .before .before .rule-end in
-    explained-unequal _ _ _ (call .last .1 .1 .0) (call .result) (call .ensures) unequal (end .result) (end .ensures)
+    let unequal = c .before .before .before .before in
+    let call = unequal .before .before .before .before .compare in
+    explained-unequal _ _ _ (call .last .1 .1 .0) (call .result) (call .ensures) (unequal .enum-told .given .1) (end .result) (end .ensures)
     (c .judge .result) (c .judge .ensures)
 
 pub explain-sheets-spec : {M : Type 1} → statement M
@@ -74,16 +67,13 @@ explain-sheets-spec =
     tie.close
     (tie.spec
     compare-requires
-    enum-known-answer
     enum-told
-    enum-told-2
+    plain-requires
+    same-length
+    returns
     rule-end-requires
     slice-reshare-prefix-judge
     slice-aggregate-judge
     judge-requires
-    same-length
-    returns
     same-length-2
-    returns-2
-    same-length-3
-    returns-3)
+    returns-2)

@@ -1,16 +1,17 @@
 -- `numbers` meets its contract, signal by signal. The measure is the signals left.
 use Prim.Native.Nat.{_≤_, _-_}
 use Rattle.explain.specs.Pages.{Follows}
+use Rattle.sheets.specs.Format.{wordBits}
 use borrow.Author.Needs.{needs}
 use Rattle.explain.proofs.Pages.{follows-same, follows-then}
 use Rattle.explain.proofs.sentence.numbers.Statement.{statement}
 use Rattle.explain.proofs.sentence.numbers.Tie as tie
 
 abbrev Inv-loop : tie.InvT-loop
-Inv-loop page₀ set pair c₀ i₀ page c i = (i ≤ 16) × Follows page₀ c₀ page c
+Inv-loop page₀ set pair c₀ i₀ page c i = (i ≤ wordBits) × Follows page₀ c₀ page c
 
 abbrev μ-loop : tie.MeasureT-loop
-μ-loop page₀ set pair c₀ i₀ page c i = 16 - i
+μ-loop page₀ set pair c₀ i₀ page c i = wordBits - i
 
 loop-holds : tie.Need-loop-holds Inv-loop μ-loop
 loop-holds c = (search needs, follows-same _ _)

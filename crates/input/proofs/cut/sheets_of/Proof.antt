@@ -4,8 +4,7 @@ use Prim.Native.Nat.{_≤_}
 use lib.ListN.{length}
 use lib.Seq.{length-take-le}
 use borrow.Author.Tests.{not-true, not-false}
-use Rattle.input.specs.Cut.{unreadable}
-use Rattle.input.proofs.Cuts.{two-sheets}
+use Rattle.input.proofs.Cuts.{no-sheets, two-sheets}
 use borrow.Author.Needs.{needs}
 use Rattle.input.proofs.cut.sheets_of.Statement.{statement}
 use Rattle.input.proofs.cut.sheets_of.Tie as tie
@@ -17,7 +16,7 @@ readable-requires : tie.Need-readable-requires
 readable-requires c κs = search needs
 
 returns : tie.Need-returns
-returns c = unreadable (sym (c .before .readable .ensures) ∙ not-true _ (c .if1 .taken))
+returns c = no-sheets _ _ (sym (c .before .readable .ensures) ∙ not-true _ (c .if1 .taken))
 
 words-of-requires : tie.Need-words-of-requires
 words-of-requires c κs = search needs

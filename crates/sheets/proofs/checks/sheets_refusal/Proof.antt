@@ -1,5 +1,5 @@
 -- `sheets_refusal` meets its contract, by the parts of the table: the machine, the rule, the signals.
-use mathlib.Core.Path.{sym}
+use mathlib.Core.Path.{sym, _∙_}
 use Prim.Native.Nat.{ℕ}
 use mathlib.Core.List.{List, _++_}
 use borrow.Author.Needs.{needs}
@@ -7,7 +7,7 @@ use Rattle.sheets.specs.Questions.{Question}
 use Rattle.sheets.specs.Machine.{machineQuestions, machineRefusal}
 use Rattle.sheets.specs.Rules.{lent, ruleQuestions, ruleRefusal}
 use Rattle.sheets.specs.Sheets.{sheetQuestions}
-use Rattle.sheets.proofs.Questions.{Finds, none, found, went-on, returned, part-returned, part-went-on}
+use Rattle.sheets.proofs.Questions.{rule-answers, Finds, none, found, went-on, returned, part-returned, part-went-on}
 use Rattle.sheets.proofs.SheetTable.{machine-numbered, rules-numbered, signalQuestion}
 use Rattle.sheets.proofs.checks.sheets_refusal.Statement.{statement}
 use Rattle.sheets.proofs.checks.sheets_refusal.Tie as tie
@@ -61,7 +61,7 @@ signals-requires : tie.Need-signals-requires
 signals-requires c κs = search needs
 
 over-signals-requires : tie.Need-over-signals-requires
-over-signals-requires c κs = search needs
+over-signals-requires c κs = let rules = c .before .before in rule-answers lent _ (sym (rules .rule-refusal .ensures) ∙ c .before .if2 .left) .fifteen
 
 returns-3 : tie.Need-returns-3
 returns-3 c =

@@ -1,18 +1,21 @@
 -- `over_signals` meets its contract. The invariant: the lines passed have signal numbers of at most a. The measure is how many are left.
-use mathlib.Core.Path.{sym}
-use Prim.Native.Nat.{ℕ, _-_}
-use mathlib.Core.List.{List}
-use mathlib.Core.Bool.{Bool, not, _||_}
-use lib.Dec.{leb, eqb}
-use borrow.Author.Tests.{le-leb, lt-leb, eq-eqb, ne-eqb}
-use Rattle.sheets.specs.Rules.{lent, lines, lineWord, overSignals}
-use Rattle.sheets.proofs.EachLoops.{Tested, each-starts, each-goes, each-stops, each-ends}
 use borrow.Author.Needs.{needs}
+use mathlib.Core.Path.{sym, _∙_, subst}
+use Prim.Native.Nat.{ℕ, _-_}
+use native.Mathlib.Omega.{arith}
+use mathlib.Core.List.{List}
+use mathlib.Core.Bool.{Bool}
+use lib.Dec.{T}
+use borrow.Author.Tests.{not-true, not-false}
+use Rattle.sheets.specs.Rules.{lent, lines, line, signalMost, q15, overSignals}
+use Rattle.sheets.proofs.Search.{each-at}
+use Rattle.sheets.proofs.DecodedLines.{malformed-fails, most-decoded}
+use Rattle.sheets.proofs.EachLoops.{Tested, each-starts, each-goes, each-stops, each-ends}
 use Rattle.sheets.proofs.lines.over_signals.Statement.{statement}
 use Rattle.sheets.proofs.lines.over_signals.Tie as tie
 
 abbrev test : List ℕ → ℕ → ℕ → Bool
-test r a j = not (eqb (lineWord lent r j 0) 0) || leb (lineWord lent r j 1) a
+test r a j = signalMost a (line lent r j)
 
 abbrev Inv-loop : tie.InvT-loop
 Inv-loop r a l j₀ j = Tested (test r a) l j
@@ -29,48 +32,53 @@ loop-holds c = each-starts _ _
 add-j : tie.Need-add-j Inv-loop μ-loop
 add-j c = search needs
 
-line-word-requires : tie.Need-line-word-requires Inv-loop μ-loop
-line-word-requires c κs = search needs
+decode-requires : tie.Need-decode-requires Inv-loop μ-loop
+decode-requires c κs = search needs
 
-line-word-requires-2 : tie.Need-line-word-requires-2 Inv-loop μ-loop
-line-word-requires-2 c κs = search needs
+enum-known-decoded : tie.Need-enum-known-decoded Inv-loop μ-loop
+enum-known-decoded c = search needs
+
+enum-told : tie.Need-enum-told Inv-loop μ-loop
+enum-told c = search needs
 
 returns : tie.Need-returns Inv-loop μ-loop
-unfolding overSignals
+unfolding q15
 returns c =
-    let if1 = c .before .before in
-    let turn = if1 .before .before in
+    let turn = c .before .before .before in
     let read = turn .before .before in
-    let a = read .before .before .args in
-    let e = rw (if1 .before .line-word .ensures) at (eq-eqb _ 0 (if1 .if1 .taken)) in
-    let g = rw (c .before .line-word2 .ensures) at (lt-leb _ (a .a) (c .if2 .taken)) in
-    sym (each-stops (test (a .r .now) (a .a)) (read .lines .ensures) (turn .loop-test .taken) (rw (e, g)))
+    let start = read .before .before in
+    let r = start .args .r .now in
+    let no = malformed-fails r _ (sym (c .before .before .decode .ensures) ∙ c .enum-told .given .1) in
+    absurd (subst T no (each-at (lines r) _ (start .pre) _ (omega arith) (omega (arith, read .lines .ensures, turn .loop-test .taken))))
+
+signal-most-requires : tie.Need-signal-most-requires Inv-loop μ-loop
+signal-most-requires c κs = search needs
+
+returns-2 : tie.Need-returns-2 Inv-loop μ-loop
+unfolding overSignals
+returns-2 c =
+    let told = c .before .before in
+    let turn = told .before .before .before .before in
+    let read = turn .before .before in
+    let args = read .before .before .args in
+    let most = most-decoded (args .r .now) _ (args .a) _ (sym (told .before .before .before .decode .ensures) ∙ told .before .decoded .given .1) in
+    sym (each-stops (test (args .r .now) (args .a)) (read .lines .ensures) (turn .loop-test .taken) (sym most ∙ sym (c .before .signal-most .ensures) ∙ not-true _ (c .if1 .taken)))
 
 loop-less : tie.Need-loop-less Inv-loop μ-loop
 loop-less c = search needs
 
 loop-again : tie.Need-loop-again Inv-loop μ-loop
 loop-again c =
-    let if1 = c .before .before in
-    let turn = if1 .before .before in
-    let a = turn .before .before .before .before .args in
-    let e = rw (if1 .before .line-word .ensures) at (eq-eqb _ 0 (if1 .if1 .taken)) in
-    let g = rw (c .before .line-word2 .ensures) at (le-leb _ (a .a) (c .if2 .left)) in
-    each-goes (test (a .r .now) (a .a)) (turn .loop-test .taken) (turn .before .loop .inv) (rw (e, g))
+    let told = c .before .before in
+    let turn = told .before .before .before .before in
+    let read = turn .before .before in
+    let args = read .before .before .args in
+    let most = most-decoded (args .r .now) _ (args .a) _ (sym (told .before .before .before .decode .ensures) ∙ told .before .decoded .given .1) in
+    each-goes (test (args .r .now) (args .a)) (turn .loop-test .taken) (turn .before .loop .inv) (sym most ∙ sym (c .before .signal-most .ensures) ∙ not-false _ (c .if1 .left))
 
-loop-less-2 : tie.Need-loop-less-2 Inv-loop μ-loop
-loop-less-2 c = search needs
-
-loop-again-2 : tie.Need-loop-again-2 Inv-loop μ-loop
-loop-again-2 c =
-    let turn = c .before .before in
-    let a = turn .before .before .before .before .args in
-    let e = rw (c .before .line-word .ensures) at (ne-eqb _ 0 (c .if1 .left)) in
-    each-goes (test (a .r .now) (a .a)) (turn .loop-test .taken) (turn .before .loop .inv) (rw e)
-
-returns-2 : tie.Need-returns-2 Inv-loop μ-loop
+returns-3 : tie.Need-returns-3 Inv-loop μ-loop
 unfolding overSignals
-returns-2 c = sym (each-ends _ (c .before .before .lines .ensures) (c .loop-test .left) (c .before .loop .inv))
+returns-3 c = sym (each-ends _ (c .before .before .lines .ensures) (c .loop-test .left) (c .before .loop .inv))
 
 pub over-signals-spec : {M : Type 1} → statement M
 over-signals-spec =
@@ -81,11 +89,12 @@ over-signals-spec =
     lines-requires
     loop-holds
     add-j
-    line-word-requires
-    line-word-requires-2
+    decode-requires
+    enum-known-decoded
+    enum-told
     returns
+    signal-most-requires
+    returns-2
     loop-less
     loop-again
-    loop-less-2
-    loop-again-2
-    returns-2)
+    returns-3)

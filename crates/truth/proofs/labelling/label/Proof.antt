@@ -8,6 +8,7 @@ use Rattle.sheets.specs.Rules.{lent, lines, ruleRefusal}
 use Rattle.sheets.proofs.Counting.{number-most}
 use Rattle.sheets.proofs.AcceptedMachine.{nodes-sized}
 use Rattle.sheets.proofs.AcceptedRule.{some-line}
+use Rattle.truth.specs.Sizes.{membersMost, rowWordBits}
 use Rattle.truth.specs.Rows.{rowHas}
 use Rattle.truth.proofs.labelling.LabelTable.{machine-accepted, rules-accepted, space-enough}
 use Rattle.truth.proofs.rows.RowLaws.{tally-number}
@@ -70,7 +71,7 @@ nodes-requires c κs = omega arith
 percent-requires : tie.Need-percent-requires
 percent-requires c κs =
     let sized = nodes-sized _ (accepted (c .before .before .before .before .before .before .before .before .before .before) .0) in
-    (rw (c .before .before .count .ensures, tally-number 128 (rowHas (c .before .before .before .line-row .result))) (number-most 128 _), omega (arith, c .nodes .ensures))
+    (rw (c .before .before .count .ensures, tally-number membersMost (rowHas (c .before .before .before .line-row .result))) (number-most membersMost _), omega (arith, c .nodes .ensures))
 
 same-length : tie.Need-same-length
 same-length c = search needs
@@ -84,8 +85,8 @@ returns-2 c =
     let row = c .before .before .before .before .line-row in
     let i = 2 * (lines .result - 1) in
     let below = c .before .before .before .before .before .before .slice-known2 .given in
-    let lo : row .result .low < 2 ^ 64 = omega (arith, row .ensures .0, below i) in
-    let hi : row .result .high < 2 ^ 64 = omega (arith, row .ensures .1, below (i + 1)) in
+    let lo : row .result .low < 2 ^ rowWordBits = omega (arith, row .ensures .0, below i) in
+    let hi : row .result .high < 2 ^ rowWordBits = omega (arith, row .ensures .1, below (i + 1)) in
     done (a .m .now) (a .r .now) (a .rows .now) _ (none .before .label-refusal .ensures) _ (row .result .low) (row .result .high) _ _ _ _ (none .if1 .left)
     (rw (lines .ensures) at (labelled .label-lines .ensures)) (lines .ensures) (row .ensures .0) (row .ensures .1) lo hi (c .before .before .keeps .ensures)
     (c .before .before .before .count .ensures) (rw (c .before .nodes .ensures) at (c .percent .ensures))

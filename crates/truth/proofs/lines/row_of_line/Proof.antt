@@ -55,13 +55,13 @@ enum-known-line-4 : tie.Need-enum-known-line-4
 enum-known-line-4 c = search needs
 
 path-row-requires : tie.Need-path-row-requires
-path-row-requires c κs = let d = c .before .before .before .before in path-ready (start d .pre) false (formed d (c .before .line4 .given .1))
+path-row-requires c κs = let d = c .before .before .before .before in path-ready (start d .pre) false _ (formed d (c .before .line4 .given .1))
 
 enum-known-line-5 : tie.Need-enum-known-line-5
 enum-known-line-5 c = search needs
 
 path-row-requires-2 : tie.Need-path-row-requires-2
-path-row-requires-2 c κs = let d = c .before .before .before .before in path-ready (start d .pre) true (formed d (c .before .line5 .given .1))
+path-row-requires-2 c κs = let d = c .before .before .before .before in path-ready (start d .pre) true _ (formed d (c .before .line5 .given .1))
 
 returns-2 : tie.Need-returns-2
 returns-2 c = let d = c .before .before .before .before .before in signal-row (start d .pre) (formed d (c .before .before .line .given .1)) (c .signal-row .ensures)
@@ -73,10 +73,10 @@ returns-4 : tie.Need-returns-4
 returns-4 c = let d = c .before .before .before .before .before in either-row (start d .pre) (formed d (c .before .before .line3 .given .1)) (c .either-row .ensures)
 
 returns-5 : tie.Need-returns-5
-returns-5 c = let d = c .before .before .before .before .before in path-row (start d .pre) false (formed d (c .before .before .line4 .given .1)) (c .path-row .ensures)
+returns-5 c = let d = c .before .before .before .before .before in path-row (start d .pre) false _ (formed d (c .before .before .line4 .given .1)) (c .path-row .ensures)
 
 returns-6 : tie.Need-returns-6
-returns-6 c = let d = c .before .before .before .before .before in path-row (start d .pre) true (formed d (c .before .before .line5 .given .1)) (c .path-row2 .ensures)
+returns-6 c = let d = c .before .before .before .before .before in path-row (start d .pre) true _ (formed d (c .before .before .line5 .given .1)) (c .path-row2 .ensures)
 
 pub row-of-line-spec : {M : Type 1} → statement M
 row-of-line-spec =

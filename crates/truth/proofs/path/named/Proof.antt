@@ -2,23 +2,24 @@
 -- The measure is what is left of the count.
 use borrow.Author.Needs.{needs}
 use mathlib.Core.Path.{_≡_, refl, ap, _∙_}
-use Prim.Native.Nat.{ℕ, _+_, _-_, _≤_, _<_}
+use Prim.Native.Nat.{ℕ, _-_, _≤_, _<_}
 use native.Mathlib.Omega.{arith}
 use lib.ListN.{length, getD, length-set}
 use lib.Seq.{getD-set-other}
 use Rattle.sheets.proofs.Positions.{stored}
+use Rattle.truth.specs.Sizes.{positionsMost, pairsMost}
 use Rattle.truth.proofs.path.named.Statement.{statement}
 use Rattle.truth.proofs.path.named.Tie as tie
 
 abbrev Inv-loop : tie.InvT-loop
 Inv-loop count states out₀ i₀ out i =
-    (i ≤ count) × (length out ≡ 2048) × ((j : ℕ) → j < i → getD out j 0 ≡ getD states (getD out₀ j 0) 0) × ((j : ℕ) → i ≤ j → getD out j 0 ≡ getD out₀ j 0)
+    (i ≤ count) × (length out ≡ pairsMost) × ((j : ℕ) → j < i → getD out j 0 ≡ getD states (getD out₀ j 0) 0) × ((j : ℕ) → i ≤ j → getD out j 0 ≡ getD out₀ j 0)
 
 abbrev μ-loop : tie.MeasureT-loop
 μ-loop count states out₀ i₀ out i = count - i
 
 -- the position that is named next
-small : (c : tie.In-loop Inv-loop μ-loop) → getD (c .before .loop .out) (c .before .loop .i) 0 < 16
+small : (c : tie.In-loop Inv-loop μ-loop) → getD (c .before .loop .out) (c .before .loop .i) 0 < positionsMost
 small c = rw (c .before .loop .inv .3 (c .before .loop .i) (omega arith)) (c .before .before .pre .1 (c .before .loop .i) (omega arith))
 
 loop-holds : tie.Need-loop-holds Inv-loop μ-loop

@@ -4,20 +4,21 @@ use mathlib.Core.Path.{_≡_}
 use Prim.Native.Nat.{min, _≤_}
 use native.Mathlib.Omega.{arith}
 use lib.ListN.{length}
+use Rattle.truth.specs.Sizes.{pairsMost}
 use Rattle.truth.proofs.path.ShownPaths.{count-most, answered}
 use borrow.Author.Needs.{needs}
 use Rattle.truth.proofs.path.path_lists.Statement.{statement}
 use Rattle.truth.proofs.path.path_lists.Tie as tie
 
 -- the lists that were made have room for every pair
-long-nodes : (c : tie.After-make-within) → length (c .make-within .result .nodes) ≡ 2048
+long-nodes : (c : tie.After-make-within) → length (c .make-within .result .nodes) ≡ pairsMost
 long-nodes c = search needs
 
-long-states : (c : tie.After-make-within) → length (c .make-within .result .states) ≡ 2048
+long-states : (c : tie.After-make-within) → length (c .make-within .result .states) ≡ pairsMost
 long-states c = search needs
 
 -- no more pairs than both lists have
-few : (c : tie.After-length-of) → c .length-of .result ≤ min (c .before .before .least .result) 2048
+few : (c : tie.After-length-of) → c .length-of .result ≤ min (c .before .before .least .result) pairsMost
 few c =
     let made = c .before .make-within in
     let a = c .before .before .before .before .before .before .before .args in

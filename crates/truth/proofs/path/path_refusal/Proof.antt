@@ -1,7 +1,6 @@
 -- `path_refusal` meets its contract, by the parts of the table: the sheets, then the line and the room.
 use mathlib.Core.Path.{sym}
 use Prim.Native.Nat.{ℕ}
-use lib.ListN.{drop}
 use Rattle.sheets.specs.Sheets.{sheetQuestions}
 use Rattle.sheets.proofs.Questions.{Finds, none, found, went-on, returned, part-returned, part-went-on}
 use Rattle.sheets.proofs.SheetTable.{sheets-numbered}
