@@ -1,7 +1,7 @@
 -- The automaton of a path line beside the machine, in rows: where the argument lines have a valuation, where a position may go to
 -- another, and which positions are good.
 use mathlib.Core.Path.{_≡_}
-use mathlib.Core.Logic.{_⊎_, _↔_}
+use mathlib.Core.Logic.{_↔_}
 use Prim.Native.Nat.{ℕ, zero, suc, _+_, _-_, _*_, _^_, _≤_, _<_}
 use mathlib.Core.List.{List}
 use mathlib.Core.Bool.{Bool, true, false, not, _&&_}
@@ -12,7 +12,7 @@ use Rattle.sheets.specs.Structures.{Automaton}
 use Rattle.sheets.specs.Rules.{lent, lineWord}
 use Rattle.sheets.specs.Lines.{arguments}
 use Rattle.sheets.specs.declared.lines.PathLine.{PathLine}
-use Rattle.truth.specs.Sizes.{rowWords, positionsMost, tableWords, cell}
+use Rattle.truth.specs.Sizes.{positionsMost, rowWords, cell}
 use Rattle.truth.specs.Rows.{rowsHas}
 use Rattle.truth.specs.Links.{Into, Onto}
 
@@ -40,7 +40,7 @@ argumentOf p = lineAt (arguments p)
 abbrev pub argumentAt : List ℕ → (ℕ → ℕ) → ℕ → ℕ → Bool
 argumentAt rows arg s i = rowsHas rows (arg i - 1) s
 
--- `allow` has at row `cell p p′` the nodes of `all` at which the automaton A, of t positions, goes from position p to position p′, under the
+-- `allow` has at the row of p and p′ the nodes of `all` at which the automaton A, of t positions, goes from position p to position p′, under the
 -- valuation that the argument lines have there; position p is state p + 1
 pub record Allowed (A : Automaton) (t : ℕ) (rows : List ℕ) (arg : ℕ → ℕ) (all : ℕ → Bool) (allow : List ℕ) : Type 0 where
   pub inside : (k s : ℕ) → T (rowsHas allow k s) → T (all s)
@@ -70,16 +70,10 @@ Refers rows arg v = (i : ℕ) → i < v → (1 ≤ arg i) × (rowWords * arg i �
 abbrev pub Drawn : List ℕ → ℕ → ℕ → Type 0
 Drawn table mask s = (w : ℕ) × T (bit mask w) × T (rowsHas table w s)
 
--- what one mask changes: row `cell p k` of `allow` has the nodes that it draws, and the sets know of p and k what they must
+-- what one mask changes: the row of p and k in `allow` has the nodes that it draws, and the sets know of p and k what they must
 pub record MaskSet (table : List ℕ) (mask p k : ℕ) (allow into onto allow′ into′ onto′ : List ℕ) : Type 0 where
   pub size : length allow′ ≡ length allow
   pub here : (s : ℕ) → T (rowsHas allow′ (cell p k) s) ↔ Drawn table mask s
   pub other : (q s : ℕ) → (q ≡ cell p k → ⊥) → rowsHas allow′ q s ≡ rowsHas allow q s
   pub enters : (t : ℕ) → t ≤ positionsMost → p < t → k < t → Into allow into t → Into allow′ into′ t
   pub leaves : (t : ℕ) → t ≤ positionsMost → p < t → k < t → Onto allow onto t → Onto allow′ onto′ t
-
--- `after` is `before` with, at the rows from `cell p 0` on, t of them, the nodes that the masks at the same places draw
-pub record Masked (table masks : List ℕ) (p t : ℕ) (before after : List ℕ) : Type 0 where
-  pub size : length after ≡ tableWords
-  pub here : (k s : ℕ) → k < t → T (rowsHas after (cell p k) s) ↔ Drawn table (getD masks (cell p k) 0) s
-  pub other : (q s : ℕ) → (q < positionsMost * p) ⊎ (cell p t ≤ q) → rowsHas after q s ≡ rowsHas before q s

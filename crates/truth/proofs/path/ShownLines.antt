@@ -10,12 +10,12 @@ use mathlib.Core.Bool.{Bool, true, false, not}
 use borrow.Author.Tests.{not-true, not-false}
 use lib.ListN.{getD}
 use lib.Dec.{T}
+use Rattle.sheets.specs.Format.{nodesMost}
 use Rattle.sheets.specs.Machine.{nodes, kripke}
 use Rattle.sheets.specs.Rules.{lent, automaton}
 use Rattle.sheets.specs.Positioned.{stateCount, stateOf, positioned}
 use Rattle.sheets.proofs.AcceptedMachine.{nodes-sized}
 use Rattle.sheets.proofs.PositionedStates.{positioned-first, positioned-named}
-use Rattle.sheets.specs.Format.{nodesMost}
 use Rattle.truth.specs.Sizes.{positionsMost, pairsMost}
 use Rattle.truth.specs.Rows.{held}
 use Rattle.truth.specs.Labelling.{rowTruths}

@@ -2,9 +2,14 @@
 use mathlib.Core.Path.{_≡_, sym, _∙_}
 use Prim.Native.Nat.{_+_, _-_}
 use native.Mathlib.Omega.{arith}
-use Rattle.truth.proofs.product.AllowedTables.{mask-none, mask-more}
+use Rattle.truth.proofs.product.AllowedTables.{mask-zero, mask-none, mask-more}
 use Rattle.truth.proofs.product.set_mask.Statement.{statement}
 use Rattle.truth.proofs.product.set_mask.Tie as tie
+
+returns : tie.Need-returns
+returns c =
+    let a = c .before .args in
+    mask-zero (a .table .now) (a .mask) (a .p) (a .k) (a .out .now) (a .into .now) (a .onto .now) (c .if1 .taken) (c .before .pre .3)
 
 mask-row-requires : tie.Need-mask-row-requires
 mask-row-requires c κs = omega arith
@@ -12,12 +17,12 @@ mask-row-requires c κs = omega arith
 is-empty-requires : tie.Need-is-empty-requires
 is-empty-requires c κs = omega arith
 
-returns : tie.Need-returns
-returns c =
-    let a = c .before .before .before .args in
-    let pre = c .before .before .before .pre in
+returns-2 : tie.Need-returns-2
+returns-2 c =
+    let a = c .before .before .before .before .args in
+    let pre = c .before .before .before .before .pre in
     mask-none (a .table .now) (a .mask) (a .p) (a .k) (pre .0) (pre .1) (a .out .now) (pre .2) (a .into .now) (a .onto .now) _ _ (c .before .before .mask-row .ensures)
-    (pre .3) (sym (c .if1 .taken) ∙ c .before .is-empty .ensures)
+    (pre .3) (sym (c .if2 .taken) ∙ c .before .is-empty .ensures)
 
 mul-store : tie.Need-mul-store
 mul-store c = omega arith
@@ -49,10 +54,10 @@ add-add-4 c = omega arith
 add-requires-2 : tie.Need-add-requires-2
 add-requires-2 c κs = omega arith
 
-returns-2 : tie.Need-returns-2
-returns-2 c =
-    let a = c .before .before .before .before .before .before .before .before .before .args in
-    let pre = c .before .before .before .before .before .before .before .before .before .pre in
+returns-3 : tie.Need-returns-3
+returns-3 c =
+    let a = c .before .before .before .before .before .before .before .before .before .before .args in
+    let pre = c .before .before .before .before .before .before .before .before .before .before .pre in
     let to : a .k + 1 - 1 ≡ a .k = omega arith in
     let from : a .p + 1 - 1 ≡ a .p = omega arith in
     mask-more (a .table .now) (a .mask) (a .p) (a .k) (pre .0) (pre .1) (a .out .now) (pre .2) (a .into .now) (a .onto .now) _ _ (c .before .before .before .before .before .before .before .before .mask-row .ensures)
@@ -62,9 +67,10 @@ pub set-mask-spec : {M : Type 1} → statement M
 set-mask-spec =
     tie.close
     (tie.spec
+    returns
     mask-row-requires
     is-empty-requires
-    returns
+    returns-2
     mul-store
     add-store
     cast-store
@@ -75,4 +81,4 @@ set-mask-spec =
     add-add-3
     add-add-4
     add-requires-2
-    returns-2)
+    returns-3)

@@ -1,11 +1,11 @@
 -- `valuation_table` meets its contract. The invariant: the rows below w have the nodes of their valuations. The measure is the number of those left.
 use borrow.Author.Needs.{needs}
 use mathlib.Core.Path.{_≡_}
-use Prim.Native.Nat.{ℕ, _+_, _-_, _*_, _^_, _≤_, _<_}
+use Prim.Native.Nat.{ℕ, _-_, _^_, _≤_, _<_}
 use native.Mathlib.Omega.{arith}
 use mathlib.Core.List.{List}
 use mathlib.Core.Bool.{Bool, _&&_}
-use Rattle.truth.specs.Sizes.{setWords}
+use Rattle.truth.specs.Sizes.{highAt, setWords}
 use Rattle.truth.specs.Rows.{rowHas}
 use Rattle.truth.specs.Pairs.{NoRow}
 use Rattle.truth.specs.Product.{agrees, lineAt, argumentAt}
@@ -54,7 +54,7 @@ loop-again c =
     let at = c .before .before .before .before .loop in
     let v = valuations (a .v) (omega arith) in
     let valued = Valued (a .rows .now) (a .all) (a .lines) (a .v) in
-    let few : 2 * at .w + 1 < setWords = omega (arith, v .0, v .1) in (
+    let few : highAt (at .w) < setWords = omega (arith, v .0, v .1) in (
       omega arith,
       filled-more valued (at .out) _ (at .w) _ _ (at .inv .1) few (c .store .ensures) (c .before .before .valuation-row .ensures),
       empty-after (at .out) _ (at .w) _ _ (omega (arith, few, at .inv .1 .size)) (c .store .ensures) (at .inv .2),
