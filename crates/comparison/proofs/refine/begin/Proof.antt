@@ -34,7 +34,7 @@ store-requires-2 c κs = search needs
 
 add-line : tie.Need-add-line
 add-line c =
-    let first : tie.After-write-first = search in let start : tie.Start = search in
+    let first : tie.After-write-first-lines = search in let start : tie.Start = search in
     omega (arith, signals-sized (start .args .m1 .now) (start .pre .0), first .before .before .signals .ensures)
 
 element-write-line : tie.Need-element-write-line
