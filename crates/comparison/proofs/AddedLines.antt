@@ -8,8 +8,8 @@ use mathlib.Core.List.{List, [], _∷_, _++_}
 use lib.ListN.{length, getD, length-append, List·getD-append}
 use lib.Seq.{getD-append-add}
 use Rattle.truth.specs.Passed.{nodes, machineRefusal}
-use Rattle.comparison.specs.Lines.{Entry, sig, entry, Refers, Downward}
-use Rattle.comparison.specs.Blocks.{TrueIn}
+use Rattle.comparison.specs.inner.Lines.{Entry, sig, entry, Refers, Downward}
+use Rattle.comparison.specs.inner.Blocks.{TrueIn}
 use Rattle.comparison.proofs.TrueLines.{says-same, true-says}
 
 module _ (ls more : List Entry) where

@@ -11,13 +11,13 @@ use lib.Seq.{getD-set-same, getD-set-other}
 use lib.Dec.{T, T-not, not-T}
 use Rattle.truth.specs.Sizes.{membersMost}
 use Rattle.truth.specs.Passed.{each, within}
-use Rattle.truth.specs.Rows.{held, rowsHas}
+use Rattle.truth.specs.inner.Rows.{held, rowsHas}
 use Rattle.truth.proofs.Passed.{and-both, and-left, and-right, surely, find, within-in, each-at, each-in}
 use Rattle.truth.proofs.rows.RowLaws.{held-in}
 use Rattle.truth.proofs.tables.TableLaws.{stored-length, stored-here, stored-other}
-use Rattle.comparison.specs.Sizes.{blockPlaces, blockWords}
-use Rattle.comparison.specs.Blocks.{In, AllIn, Meets, Unsplit, Split}
-use Rattle.comparison.specs.Tables.{PartedRows, LinedBlocks, OfNodes, TellsMeets, TellsSplit}
+use Rattle.comparison.specs.inner.Sizes.{blockPlaces, blockWords}
+use Rattle.comparison.specs.inner.Blocks.{In, AllIn, Meets, Unsplit, Split}
+use Rattle.comparison.specs.inner.Tables.{PartedRows, LinedBlocks, OfNodes, TellsMeets, TellsSplit}
 
 -- ---- parting
 

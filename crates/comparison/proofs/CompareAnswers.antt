@@ -5,14 +5,14 @@ use native.Mathlib.Omega.{arith}
 use mathlib.Core.List.{List, [], _∷_, _++_}
 use lib.ListN.{length, getD, drop, length-append}
 use Rattle.truth.specs.Passed.{none, firstNo, nodes, signals, nodesMost, lineWords, nextHead}
-use Rattle.truth.specs.Rows.{rowsHas}
+use Rattle.truth.specs.inner.Rows.{rowsHas}
 use Rattle.truth.proofs.Passed.{nodes-sized}
-use Rattle.comparison.specs.Sizes.{writtenSpace, writtenMost}
-use Rattle.comparison.specs.Lines.{Entry, neg, sheet, Downward, HoldsLines, Adds}
-use Rattle.comparison.specs.Needed.{Shortened, Listed}
-use Rattle.comparison.specs.Refinement.{LinesIn}
-use Rattle.comparison.specs.Stages.{Partitioned}
-use Rattle.comparison.specs.Sides.{OneSided}
+use Rattle.comparison.specs.inner.Sizes.{writtenSpace, writtenMost}
+use Rattle.comparison.specs.inner.Lines.{Entry, neg, sheet, Downward, HoldsLines, Adds}
+use Rattle.comparison.specs.inner.Needed.{Shortened, Listed}
+use Rattle.comparison.specs.inner.Refinement.{LinesIn}
+use Rattle.comparison.specs.inner.Stages.{Partitioned}
+use Rattle.comparison.specs.inner.Sides.{OneSided}
 use Rattle.comparison.specs.CompareAnswers.{comparisonQuestions, refusalOf, Leaves, CompareAnswer}
 use Rattle.comparison.specs.declared.refine.Partition.{Partition}
 use Rattle.comparison.specs.declared.compare.Answer.the-variants.{Refused, Equal, Unequal}

@@ -6,7 +6,7 @@ use native.Mathlib.Omega.{arith}
 use native.Mathlib.Decide.{decLe, decLt}
 use mathlib.Core.List.{List}
 use Rattle.truth.specs.Passed.{nodes}
-use Rattle.comparison.specs.Blocks.{Members, In, Disjoint, Inhabited}
+use Rattle.comparison.specs.inner.Blocks.{Members, In, Disjoint, Inhabited}
 use Rattle.truth.proofs.Passed.{chosen, pigeonhole}
 
 module _ (M₁ M₂ : List ℕ) (m₁ m₂ : Members) where

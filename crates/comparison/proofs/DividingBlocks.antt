@@ -7,9 +7,9 @@ use native.Mathlib.Omega.{arith}
 use mathlib.Core.List.{List}
 use mathlib.Core.Bool.{Bool}
 use lib.Dec.{T}
-use Rattle.comparison.specs.Blocks.{Unsplit, Split}
-use Rattle.comparison.specs.Tables.{State, firstOf, secondOf, Room, SplitBlock}
-use Rattle.comparison.specs.Stages.{Ready, NextSplit, Starts, Finer, Kept, Divided}
+use Rattle.comparison.specs.inner.Blocks.{Unsplit, Split}
+use Rattle.comparison.specs.inner.Tables.{State, firstOf, secondOf, Room, SplitBlock}
+use Rattle.comparison.specs.inner.Stages.{Ready, NextSplit, Starts, Finer, Kept, Divided}
 use Rattle.comparison.proofs.FinerBlocks.{unsplit-part, unsplit-here, unsplit-added, finer-none, finer-then, finer-split, kept-others}
 use Rattle.comparison.proofs.StagedSplits.{staged-less, room, ready-again}
 

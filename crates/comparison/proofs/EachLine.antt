@@ -6,8 +6,8 @@ use mathlib.Core.List.{List}
 use Rattle.truth.specs.Passed.{kripke, nodes, machineRefusal}
 use Rattle.truth.specs.Truth.{Truths}
 use Rattle.truth.proofs.Passed.{sum-iff, edge-stays}
-use Rattle.comparison.specs.Lines.{Entry, sig, neg, alt, next, Refers}
-use Rattle.comparison.specs.Needed.{renumber, EachLine, SomeLine}
+use Rattle.comparison.specs.inner.Lines.{Entry, sig, neg, alt, next, Refers}
+use Rattle.comparison.specs.inner.Needed.{renumber, EachLine, SomeLine}
 use Rattle.comparison.proofs.TrueLines.{Says}
 
 pub each-also : (P Q R : ℕ → Type 0) → ((i : ℕ) → P i → Q i → R i) → (l : Entry) → EachLine P l → EachLine Q l → EachLine R l

@@ -9,11 +9,11 @@ use mathlib.Core.Bool.{Bool, true, false, not, _&&_, _||_, Bool·not-not}
 use lib.ListN.{length, length-append}
 use lib.Dec.{T}
 use Rattle.truth.specs.Passed.{kripke, nodes, machineRefusal}
-use Rattle.truth.specs.Rows.{leadsInto}
+use Rattle.truth.specs.inner.Rows.{leadsInto}
 use Rattle.truth.proofs.Passed.{not-is, or-is, sum-iff, edge-stays}
 use Rattle.truth.proofs.structure.TargetRows.{leads-into}
-use Rattle.comparison.specs.Lines.{Entry, sig, neg, alt, next, entry, Refers, Downward, split}
-use Rattle.comparison.specs.Blocks.{TrueIn, Exact}
+use Rattle.comparison.specs.inner.Lines.{Entry, sig, neg, alt, next, entry, Refers, Downward, split}
+use Rattle.comparison.specs.inner.Blocks.{TrueIn, Exact}
 use Rattle.comparison.proofs.TrueLines.{true-sig, true-neg, true-alt, true-next}
 use Rattle.comparison.proofs.AddedLines.{entry-added, entry-one, down-added, down-one, true-kept}
 

@@ -8,11 +8,11 @@ use mathlib.Core.List.{List}
 use lib.Dec.{T}
 use Rattle.truth.specs.Passed.{nodes, signals, machineRefusal, nodesMost}
 use Rattle.truth.proofs.Passed.{chosen, pigeonhole, nodes-sized}
-use Rattle.comparison.specs.Lines.{Entry}
-use Rattle.comparison.specs.Blocks.{Members, In, Exact, Disjoint, Inhabited}
-use Rattle.comparison.specs.Refinement.{Refinement}
+use Rattle.comparison.specs.inner.Lines.{Entry}
+use Rattle.comparison.specs.inner.Blocks.{Members, In, Exact, Disjoint, Inhabited}
+use Rattle.comparison.specs.inner.Refinement.{Refinement}
 use Rattle.comparison.proofs.Refinement.{blocks-few}
-use Rattle.comparison.specs.Bounded.{Bounded}
+use Rattle.comparison.specs.inner.Bounded.{Bounded}
 
 module _ (M : List ℕ) (ok : machineRefusal M ≡ 0) (ls : List Entry) (count : ℕ) (line : ℕ → ℕ) (m₁ m₂ : Members)
     (r : Refinement (signals M) M M ls count line m₁ m₂) where

@@ -8,10 +8,10 @@ use mathlib.Core.Bool.{Bool, true, false, not, _&&_}
 use lib.Dec.{T}
 use Rattle.truth.specs.Passed.{nodes}
 use Rattle.truth.proofs.Passed.{and-left, and-right}
-use Rattle.comparison.specs.Blocks.{Members, In, AllIn, Meets, Unsplit, Split}
-use Rattle.comparison.specs.Refinement.{Parted}
-use Rattle.comparison.specs.Tables.{State, firstOf, secondOf, SplitBlock}
-use Rattle.comparison.specs.Stages.{Finer, Kept}
+use Rattle.comparison.specs.inner.Blocks.{Members, In, AllIn, Meets, Unsplit, Split}
+use Rattle.comparison.specs.inner.Refinement.{Parted}
+use Rattle.comparison.specs.inner.Tables.{State, firstOf, secondOf, SplitBlock}
+use Rattle.comparison.specs.inner.Stages.{Finer, Kept}
 use Rattle.comparison.proofs.Refinement.{each-block}
 
 -- ---- what does not split a block

@@ -10,9 +10,9 @@ use lib.ListN.{length, length-append}
 use lib.Dec.{T}
 use Rattle.truth.specs.Passed.{kripke, nodes, machineRefusal, signalsMost}
 use Rattle.truth.proofs.Passed.{nodes-sized}
-use Rattle.comparison.specs.Lines.{Entry, sig, entry, Refers, Downward, signalLines, everywhere, firstLines}
-use Rattle.comparison.specs.Blocks.{Exact, Members, Covers, Disjoint, Inhabited}
-use Rattle.comparison.specs.Refinement.{Refined, Refinement, LinesIn}
+use Rattle.comparison.specs.inner.Lines.{Entry, sig, entry, Refers, Downward, signalLines, everywhere, firstLines}
+use Rattle.comparison.specs.inner.Blocks.{Exact, Members, Covers, Disjoint, Inhabited}
+use Rattle.comparison.specs.inner.Refinement.{Refined, Refinement, LinesIn}
 use Rattle.comparison.proofs.AddedLines.{entry-above, entry-added, down-added}
 use Rattle.comparison.proofs.ExactLines.{exact-as, exact-sig, exact-neg, exact-alt, exact-kept}
 

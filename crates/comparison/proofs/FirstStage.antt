@@ -10,14 +10,14 @@ use lib.Seq.{getD-set-same}
 use lib.Dec.{T, leb, leb→le}
 use Rattle.truth.specs.Sizes.{membersMost}
 use Rattle.truth.specs.Passed.{nodes, signals, machineRefusal, within, nodesMost}
-use Rattle.truth.specs.Rows.{held, rowsHas}
+use Rattle.truth.specs.inner.Rows.{held, rowsHas}
 use Rattle.truth.proofs.Passed.{and-left, passed, within-in, nodes-sized, signals-sized}
 use Rattle.truth.proofs.tables.TableLaws.{stored-length, stored-here}
-use Rattle.comparison.specs.Sizes.{blockPlaces, blockWords}
-use Rattle.comparison.specs.Bounded.{Bounded}
-use Rattle.comparison.specs.Lines.{firstLines, HoldsLines}
-use Rattle.comparison.specs.Tables.{OfNodes}
-use Rattle.comparison.specs.Stages.{Staged}
+use Rattle.comparison.specs.inner.Sizes.{blockPlaces, blockWords}
+use Rattle.comparison.specs.inner.Bounded.{Bounded}
+use Rattle.comparison.specs.inner.Lines.{firstLines, HoldsLines}
+use Rattle.comparison.specs.inner.Tables.{OfNodes}
+use Rattle.comparison.specs.inner.Stages.{Staged}
 use Rattle.comparison.proofs.FirstLines.{first-length, first-entry, begins}
 
 -- the nodes 1 to n in row 0

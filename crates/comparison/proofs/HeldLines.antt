@@ -7,8 +7,8 @@ use mathlib.Core.List.{List, [], _∷_, _++_, append-assoc}
 use lib.ListN.{length, set, take, length-append, length-set}
 use lib.Seq.{take-suc-set}
 use Rattle.truth.specs.Passed.{lineWords}
-use Rattle.comparison.specs.Sizes.{writtenSpace}
-use Rattle.comparison.specs.Lines.{Entry, sig, neg, alt, words, writtenWords, signalLines, everywhere, firstLines, split, HoldsLines, Adds}
+use Rattle.comparison.specs.inner.Sizes.{writtenSpace}
+use Rattle.comparison.specs.inner.Lines.{Entry, sig, neg, alt, words, writtenWords, signalLines, everywhere, firstLines, split, HoldsLines, Adds}
 use Rattle.comparison.proofs.Lines.{words-below}
 use Rattle.comparison.proofs.FirstLines.{signal-length}
 

@@ -7,7 +7,7 @@ use lib.ListN.{length, getD, replicate, length-append, List·getD-append}
 use lib.Seq.{getD-append-add}
 use Rattle.truth.specs.Passed.{Line, signal, negation, either, somePath, lifted, lines, lineWord, line, lineOf, lineWords, nextHead}
 use Rattle.comparison.specs.Comparison.{ruleHead}
-use Rattle.comparison.specs.Lines.{Entry, sig, neg, alt, next, words, writtenWords, sheet, entry}
+use Rattle.comparison.specs.inner.Lines.{Entry, sig, neg, alt, next, words, writtenWords, sheet, entry}
 
 -- the words of one line below others
 line-words-added : (ls more : List Entry) → writtenWords (ls ++ more) ≡ writtenWords ls ++ writtenWords more

@@ -9,7 +9,7 @@ use lib.Dec.{T, leb, le→leb, eqb, eqb-refl}
 use Rattle.truth.specs.Passed.{lent, lifted, within, each, variables, automata, lines, lineWord, lineFits, pathFits, refersAbove, unused, line, ruleRefusal, signalMost, overSignals, q7, q8, q9, q10, q11, q12, q13, q14, q15, signalsMost, linesMost, lineWords, nextHead}
 use Rattle.comparison.specs.Comparison.{Rule}
 use Rattle.truth.proofs.Passed.{and-both, within-in, each-in, rule-accepted, fifteen-same, over-same}
-use Rattle.comparison.specs.Lines.{Entry, sig, neg, alt, next, words, sheet, entry, Refers, Downward}
+use Rattle.comparison.specs.inner.Lines.{Entry, sig, neg, alt, next, words, sheet, entry, Refers, Downward}
 use Rattle.comparison.proofs.Lines.{padded, length-sheet, word-is, decoded, line-is}
 
 module _ (ls : List Entry) (j : ℕ) where

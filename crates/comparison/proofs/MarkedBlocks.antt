@@ -8,11 +8,11 @@ use lib.ListN.{getD}
 use lib.Dec.{T, not-T, eqb, eqb→eq, eqb-refl}
 use Rattle.truth.specs.Sizes.{membersMost}
 use Rattle.truth.specs.Passed.{nodes, machineRefusal, within, nodesMost}
-use Rattle.truth.specs.Rows.{leadsInto, marksInto}
+use Rattle.truth.specs.inner.Rows.{leadsInto, marksInto}
 use Rattle.truth.proofs.Passed.{and-right, passed, failed, within-in, nodes-sized, edge-stays}
 use Rattle.truth.proofs.structure.TargetRows.{leads-into}
-use Rattle.comparison.specs.Blocks.{Members, In, Covers, Disjoint}
-use Rattle.comparison.specs.Signatures.{BlockMarks}
+use Rattle.comparison.specs.inner.Blocks.{Members, In, Covers, Disjoint}
+use Rattle.comparison.specs.inner.Signatures.{BlockMarks}
 
 pub same-test : (a b : Bool) → (T a → T b) → (T b → T a) → a ≡ b
 same-test true b f g = sym (passed b (f tt))

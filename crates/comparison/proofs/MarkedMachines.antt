@@ -6,11 +6,11 @@ use native.Mathlib.Omega.{arith}
 use mathlib.Core.List.{List, [], _∷_}
 use mathlib.Core.Bool.{Bool, not}
 use Rattle.truth.specs.Passed.{M1, M2, M3, M5, M6, kripke, nodes, signals, edges, signalAt, startFlag, target, edgesOf, word, bit, each, within, anyOf, chain, machineRefusal}
-use Rattle.truth.specs.Rows.{leadsInto}
+use Rattle.truth.specs.inner.Rows.{leadsInto}
 use Rattle.truth.proofs.Passed.{machine-cases}
 use Rattle.comparison.specs.Comparison.{Equal}
-use Rattle.comparison.specs.Lines.{Entry, sig, neg, next, entry, Refers, Downward}
-use Rattle.comparison.specs.Blocks.{Exact}
+use Rattle.comparison.specs.inner.Lines.{Entry, sig, neg, next, entry, Refers, Downward}
+use Rattle.comparison.specs.inner.Blocks.{Exact}
 use Rattle.comparison.proofs.ExactLines.{exact-sig, exact-neg, exact-next}
 use Rattle.comparison.proofs.OneBlock.{one-block}
 use Rattle.comparison.proofs.ToldByLines.{told}

@@ -9,13 +9,14 @@ use mathlib.Core.Bool.{Bool, true, false, not, _||_}
 use lib.ListN.{length, getD, set, length-set}
 use lib.Seq.{getD-set-same, getD-set-other}
 use lib.Dec.{T, not-T}
-use Rattle.truth.specs.Rows.{tally}
+use Rattle.comparison.specs.inner.Sizes.{nodePlaces}
+use Rattle.truth.specs.inner.Rows.{tally}
 use Rattle.truth.proofs.Passed.{and-left, and-both, dec-test}
 use Rattle.truth.proofs.rows.RowLaws.{tally-number}
 use Rattle.truth.proofs.rows.RowWalks.{Less, less-in, less-or, less-falls}
-use Rattle.comparison.specs.Blocks.{Members}
-use Rattle.comparison.specs.Refinement.{Parted}
-use Rattle.comparison.specs.Signatures.{MarkedRow, BlockMarks}
+use Rattle.comparison.specs.inner.Blocks.{Members}
+use Rattle.comparison.specs.inner.Refinement.{Parted}
+use Rattle.comparison.specs.inner.Signatures.{MarkedRow, BlockMarks}
 
 pub or-right : (a b : Bool) → T b → T (a || b)
 or-right true b t = tt
@@ -27,16 +28,16 @@ left-falls left left′ u less lo hi t = omega (arith, less-falls left left′ u
 
 -- ---- the nodes of a row marked: those that are not left have the mark
 pub record Marking (row : ℕ → Bool) (e : ℕ) (before now : List ℕ) (left : ℕ → Bool) : Type 0 where
-  pub size : length now ≡ 256
+  pub size : length now ≡ nodePlaces
   pub fewer : (s : ℕ) → T (left s) → T (row s)
   pub here : (s : ℕ) → T (row s) → T (left s) ⊎ (getD now s 0 ≡ e)
   pub others : (s : ℕ) → (T (row s) → ⊥) → getD now s 0 ≡ getD before s 0
 
 module _ (row : ℕ → Bool) (e : ℕ) (before : List ℕ) where
-  pub marking-none : length before ≡ 256 → Marking row e before before row
+  pub marking-none : length before ≡ nodePlaces → Marking row e before before row
   marking-none size = record { size = size; fewer = λ s t. t; here = λ s t. inl t; others = λ s n. refl }
 
-  pub marking-next : (now now′ : List ℕ) (left left′ : ℕ → Bool) (u : ℕ) → Marking row e before now left → T (left u) → u < 256 → Less left u left′ → now′ ≡ set now u e
+  pub marking-next : (now now′ : List ℕ) (left left′ : ℕ → Bool) (u : ℕ) → Marking row e before now left → T (left u) → u < nodePlaces → Less left u left′ → now′ ≡ set now u e
       → Marking row e before now′ left′
   marking-next now now′ left left′ u m t h less q = record {
     size = rw (q, length-set now u e) (m .size);

@@ -7,9 +7,9 @@ use native.Mathlib.Decide.{decLe, ℕ-discrete}
 use mathlib.Core.List.{List}
 use lib.ListN.{length, getD, set, length-set}
 use lib.Seq.{getD-set-same, getD-set-other}
-use Rattle.comparison.specs.Sizes.{writtenMost, linePlaces}
-use Rattle.comparison.specs.Lines.{Entry, neg, alt, next, entry, Refers, Downward}
-use Rattle.comparison.specs.Needed.{Same, Opposite, NextOf, Always, Stands, AllStand, Opposed, Followed, Merged}
+use Rattle.comparison.specs.inner.Sizes.{writtenMost, linePlaces}
+use Rattle.comparison.specs.inner.Lines.{Entry, neg, alt, next, entry, Refers, Downward}
+use Rattle.comparison.specs.inner.Needed.{Same, Opposite, NextOf, Always, Stands, AllStand, Opposed, Followed, Merged}
 use Rattle.comparison.proofs.SameTruths.{both-next, both-opposite, either-always, left-alone, next-of-line, opposite-line, opposite-turned, right-alone, same-refl}
 
 -- ---- tables

@@ -7,11 +7,11 @@ use native.Mathlib.Decide.{decLe, ℕ-discrete}
 use mathlib.Core.List.{List, [], _∷_, _++_}
 use lib.ListN.{length, getD, set, length-append}
 use lib.Seq.{getD-set-same, getD-set-other}
-use Rattle.comparison.specs.Sizes.{writtenSpace, writtenMost, linePlaces}
+use Rattle.comparison.specs.inner.Sizes.{writtenSpace, writtenMost, linePlaces}
 use Rattle.truth.specs.Passed.{nodes, machineRefusal, signalsMost}
-use Rattle.comparison.specs.Lines.{Entry, entry, Downward, HoldsLines, Adds}
-use Rattle.comparison.specs.Blocks.{TrueIn}
-use Rattle.comparison.specs.Needed.{renumber, EachLine, SomeLine, Same, AllStand, Wanted, Closed, Copied, Needs, itself, through, Shortened}
+use Rattle.comparison.specs.inner.Lines.{Entry, entry, Downward, HoldsLines, Adds}
+use Rattle.comparison.specs.inner.Blocks.{TrueIn}
+use Rattle.comparison.specs.inner.Needed.{renumber, EachLine, SomeLine, Same, AllStand, Wanted, Closed, Copied, Needs, itself, through, Shortened}
 use Rattle.comparison.proofs.TrueLines.{true-says}
 use Rattle.comparison.proofs.AddedLines.{entry-above, entry-one, down-one, true-kept}
 use Rattle.comparison.proofs.HeldLines.{holds-none}

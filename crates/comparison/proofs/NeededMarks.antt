@@ -7,8 +7,9 @@ use native.Mathlib.Decide.{ℕ-discrete}
 use mathlib.Core.List.{List}
 use lib.ListN.{length, getD, set, length-set}
 use lib.Seq.{getD-set-same, getD-set-other}
-use Rattle.comparison.specs.Lines.{Entry, sig, neg, alt, next, entry, Downward}
-use Rattle.comparison.specs.Needed.{marks, EachLine, SomeLine, AllStand, Wanted, Closed}
+use Rattle.comparison.specs.inner.Sizes.{linePlaces, writtenMost}
+use Rattle.comparison.specs.inner.Lines.{Entry, sig, neg, alt, next, entry, Downward}
+use Rattle.comparison.specs.inner.Needed.{marks, EachLine, SomeLine, AllStand, Wanted, Closed}
 use Rattle.comparison.proofs.EachLine.{each-also, each-above}
 
 -- ---- marks
@@ -77,8 +78,8 @@ marks-each f (alt i j) needed x =
     (set-grows (set needed (f i) 1) (f j) (f i) (set-marks needed (f i) (x .0)) (omega arith), set-marks (set needed (f i) 1) (f j) (omega arith))
 marks-each f (next j) needed x = set-marks needed (f j) x
 
-module _ (a : ℕ) (ls : List Entry) (down : Downward a ls) (same needed : List ℕ) (stands : AllStand ls (length ls) same) (size : length needed ≡ 1024)
-    (j : ℕ) (inside : j ≤ length ls) (small : j ≤ 938) where
+module _ (a : ℕ) (ls : List Entry) (down : Downward a ls) (same needed : List ℕ) (stands : AllStand ls (length ls) same) (size : length needed ≡ linePlaces)
+    (j : ℕ) (inside : j ≤ length ls) (small : j ≤ writtenMost) where
   pub closed-none : ((k : ℕ) → getD needed k 0 ≡ 0) → Closed ls same j j (set needed j 1)
   closed-none z = record {
     last = set-marks needed j (omega arith);

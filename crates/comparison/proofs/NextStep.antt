@@ -10,7 +10,7 @@ use Rattle.truth.specs.Passed.{Automaton, bit, kripke, nodes, automaton, machin
 use Rattle.truth.specs.Truth.{Truths, Valuation, SomePath}
 use Rattle.truth.proofs.Passed.{or-cases, or-left, firstNext, first-edge, edge-stays}
 use Rattle.truth.proofs.Valuations.{valued}
-use Rattle.comparison.specs.Lines.{Entry, sheet}
+use Rattle.comparison.specs.inner.Lines.{Entry, sheet}
 
 -- what is used of Next: state 2 goes to 3 if the variable is true, to 4 if it is not; 3 and 4 stay; 3 accepts and 4 does not
 pub record IsNext (A : Automaton) : Type 0 where

@@ -7,11 +7,11 @@ use mathlib.Core.List.{List}
 use mathlib.Core.Bool.{true}
 use lib.Dec.{T}
 use Rattle.truth.specs.Passed.{kripke, nodes, signals, each, machineRefusal}
-use Rattle.truth.specs.Rows.{leadsInto}
+use Rattle.truth.specs.inner.Rows.{leadsInto}
 use Rattle.truth.proofs.Passed.{each-at, firstNext, first-edge}
 use Rattle.truth.proofs.structure.TargetRows.{leads-into}
 use Rattle.comparison.specs.Comparison.{Equal}
-use Rattle.comparison.specs.Blocks.{Members, In, HasStart, Covers, AllIn, Unsplit}
+use Rattle.comparison.specs.inner.Blocks.{Members, In, HasStart, Covers, AllIn, Unsplit}
 use Rattle.comparison.proofs.Partition.{keeps-same}
 use Rattle.comparison.proofs.Outcome.{equal}
 

@@ -6,14 +6,14 @@ use mathlib.Core.List.{List}
 use lib.Dec.{T}
 use Rattle.truth.specs.Passed.{kripke, signals, lent, lifted, machineRefusal, ruleRefusal, overSignals}
 use Rattle.truth.specs.Truth.{Keeps}
-use Rattle.truth.specs.Rows.{leadsInto}
+use Rattle.truth.specs.inner.Rows.{leadsInto}
 use Rattle.truth.proofs.Passed.{lifts, over-same}
 use Rattle.truth.proofs.Decided.{keeps-decided}
 use Rattle.truth.proofs.LentTruth.{same-keeps}
 use Rattle.comparison.specs.Comparison.{Rule, Agreed, Equal, ToldApart}
-use Rattle.comparison.specs.Lines.{Entry, sheet}
-use Rattle.comparison.specs.Blocks.{Members, HasStart, OneStart, Unsplit}
-use Rattle.comparison.specs.Refinement.{Refinement, LinesIn}
+use Rattle.comparison.specs.inner.Lines.{Entry, sheet}
+use Rattle.comparison.specs.inner.Blocks.{Members, HasStart, OneStart, Unsplit}
+use Rattle.comparison.specs.inner.Refinement.{Refinement, LinesIn}
 use Rattle.comparison.proofs.Partition.{keeps-same}
 use Rattle.comparison.proofs.TellingApart.{negated, told-apart}
 

@@ -7,12 +7,12 @@ use mathlib.Core.List.{List}
 use lib.Dec.{T, T-not}
 use Rattle.truth.specs.Passed.{kripke, lifted, machineRefusal}
 use Rattle.truth.specs.Truth.{Keeps}
-use Rattle.truth.specs.Rows.{leadsInto}
+use Rattle.truth.specs.inner.Rows.{leadsInto}
 use Rattle.truth.proofs.Passed.{both-passed, both-failed, edge-stays, start-node}
 use Rattle.truth.proofs.Bisimulation.{Bisimulation}
 use Rattle.truth.proofs.structure.TargetRows.{leads-into}
 use Rattle.comparison.specs.Comparison.{Rule}
-use Rattle.comparison.specs.Blocks.{Members, In, HasStart, Covers, Unsplit}
+use Rattle.comparison.specs.inner.Blocks.{Members, In, HasStart, Covers, Unsplit}
 use Rattle.comparison.proofs.Invariance.{keeps-agree}
 
 pub record Stable (a count : ℕ) (M₁ M₂ : List ℕ) (m₁ m₂ : Members) : Type 0 where

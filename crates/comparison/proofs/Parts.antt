@@ -6,8 +6,8 @@ use native.Mathlib.Omega.{arith}
 use mathlib.Core.Bool.{Bool, true, false, not, _&&_}
 use borrow.Author.Tests.{eq-eqb, ne-eqb}
 use lib.Dec.{eqb}
-use Rattle.comparison.specs.Blocks.{Members}
-use Rattle.comparison.specs.Refinement.{Parted, Lined}
+use Rattle.comparison.specs.inner.Blocks.{Members}
+use Rattle.comparison.specs.inner.Refinement.{Parted, Lined}
 
 -- x at block c, y at the added block, z at the others
 choose : {X : Type 0} → Bool → Bool → X → X → X → X

@@ -8,7 +8,7 @@ use lib.ListN.{length, getD, set, take, drop}
 use lib.Seq.{paste, paste-suc, take-at, drop-at, drop-drop}
 use Rattle.truth.specs.Passed.{lineWords, nextHead}
 use Rattle.comparison.specs.Comparison.{nextWords, ruleHead}
-use Rattle.comparison.specs.Lines.{Entry, writtenWords, sheet, HoldsLines}
+use Rattle.comparison.specs.inner.Lines.{Entry, writtenWords, sheet, HoldsLines}
 use Rattle.comparison.proofs.Lines.{length-sheet}
 
 pub pasted : (d d′ : List ℕ) (at : ℕ) (s : List ℕ) (i : ℕ) → d′ ≡ paste d at s i → at + i < length d → i < length s → set d′ (at + i) (getD s i 0) ≡ paste d at s (i + 1)

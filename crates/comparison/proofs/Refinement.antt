@@ -11,9 +11,9 @@ use lib.ListN.{length, length-append}
 use lib.Dec.{T, T-not, not-T}
 use Rattle.truth.specs.Passed.{nodes, machineRefusal}
 use Rattle.truth.proofs.Passed.{and-both, and-left, and-right, dec-test}
-use Rattle.comparison.specs.Lines.{Entry, Downward, split}
-use Rattle.comparison.specs.Blocks.{Exact, Members, In, Covers, Disjoint, Inhabited, Meets}
-use Rattle.comparison.specs.Refinement.{Refined, LinesIn, Refinement, Parted, Lined}
+use Rattle.comparison.specs.inner.Lines.{Entry, Downward, split}
+use Rattle.comparison.specs.inner.Blocks.{Exact, Members, In, Covers, Disjoint, Inhabited, Meets}
+use Rattle.comparison.specs.inner.Refinement.{Refined, LinesIn, Refinement, Parted, Lined}
 use Rattle.comparison.proofs.ExactLines.{exact-as, exact-kept, split-down, split-length, split-both, split-first}
 use Rattle.comparison.proofs.CountedBlocks.{at-most-nodes}
 

@@ -8,9 +8,9 @@ use lib.ListN.{length}
 use Rattle.truth.specs.Passed.{nodes, lifted, machineRefusal}
 use Rattle.truth.proofs.Passed.{sum-iff, edge-stays}
 use Rattle.truth.proofs.Decided.{truth-decided}
-use Rattle.comparison.specs.Lines.{Entry, neg, alt, next, sheet, entry, Downward}
-use Rattle.comparison.specs.Blocks.{TrueIn}
-use Rattle.comparison.specs.Needed.{Same, Opposite, NextOf, Always}
+use Rattle.comparison.specs.inner.Lines.{Entry, neg, alt, next, sheet, entry, Downward}
+use Rattle.comparison.specs.inner.Blocks.{TrueIn}
+use Rattle.comparison.specs.inner.Needed.{Same, Opposite, NextOf, Always}
 use Rattle.comparison.proofs.Lines.{lines-are}
 use Rattle.comparison.proofs.LinesAccepted.{accepted}
 use Rattle.comparison.proofs.TrueLines.{true-neg, true-alt, true-next}

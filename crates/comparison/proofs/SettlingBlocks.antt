@@ -6,10 +6,10 @@ use native.Mathlib.Decide.{ℕ-discrete}
 use native.Mathlib.Omega.{arith}
 use mathlib.Core.List.{List}
 use Rattle.truth.specs.Passed.{kripke, signals, nodesMost}
-use Rattle.comparison.specs.Blocks.{Unsplit}
-use Rattle.comparison.specs.Tables.{State, firstOf, secondOf}
-use Rattle.comparison.specs.Stages.{Staged, Divided, Signalled, Settled, Partitioned}
-use Rattle.comparison.specs.Signatures.{Turned}
+use Rattle.comparison.specs.inner.Blocks.{Unsplit}
+use Rattle.comparison.specs.inner.Tables.{State, firstOf, secondOf}
+use Rattle.comparison.specs.inner.Stages.{Staged, Divided, Signalled, Settled, Partitioned}
+use Rattle.comparison.specs.inner.Signatures.{Turned}
 use Rattle.comparison.specs.declared.refine.Partition.{Partition}
 use Rattle.comparison.proofs.StagedSplits.{blocks-fit}
 use Rattle.comparison.proofs.FinerBlocks.{unsplit-finer}

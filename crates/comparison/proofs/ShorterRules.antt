@@ -8,8 +8,8 @@ use Rattle.truth.specs.Truth.{Keeps}
 use Rattle.truth.proofs.Passed.{start-node}
 use Rattle.truth.proofs.LentTruth.{same-keeps}
 use Rattle.comparison.specs.Comparison.{ToldApart}
-use Rattle.comparison.specs.Lines.{Entry, sheet}
-use Rattle.comparison.specs.Needed.{Same, Shortened}
+use Rattle.comparison.specs.inner.Lines.{Entry, sheet}
+use Rattle.comparison.specs.inner.Needed.{Same, Shortened}
 use Rattle.comparison.proofs.Lines.{lines-are}
 
 module _ (a : ℕ) (ls short : List Entry) (x : Shortened a ls short) where

@@ -9,13 +9,13 @@ use lib.ListN.{length, getD, length-append}
 use lib.Dec.{leb}
 use Rattle.truth.specs.Sizes.{membersMost}
 use Rattle.truth.specs.Passed.{kripke, nodes, signals, within, nodesMost}
-use Rattle.truth.specs.Rows.{rowHas, rowsHas, leadsInto}
+use Rattle.truth.specs.inner.Rows.{rowHas, rowsHas, leadsInto}
 use Rattle.truth.specs.declared.rows.Row.{Row}
 use Rattle.truth.proofs.Passed.{passed, within-in, nodes-sized}
-use Rattle.comparison.specs.Lines.{Entry, next, Adds}
-use Rattle.comparison.specs.Blocks.{Exact}
-use Rattle.comparison.specs.Tables.{State, firstOf, secondOf, lineOf, written}
-use Rattle.comparison.specs.Stages.{Staged, Cut, Ready, NextSplit, Starts, Divided}
+use Rattle.comparison.specs.inner.Lines.{Entry, next, Adds}
+use Rattle.comparison.specs.inner.Blocks.{Exact}
+use Rattle.comparison.specs.inner.Tables.{State, firstOf, secondOf, lineOf, written}
+use Rattle.comparison.specs.inner.Stages.{Staged, Cut, Ready, NextSplit, Starts, Divided}
 use Rattle.comparison.proofs.AddedLines.{entry-above}
 use Rattle.comparison.proofs.ExactLines.{exact-as, exact-sig, next-down, next-added}
 use Rattle.comparison.proofs.Refinement.{grows}

@@ -6,11 +6,11 @@ use mathlib.Core.List.{List, _++_}
 use mathlib.Core.Bool.{Bool, not}
 use lib.ListN.{length}
 use Rattle.truth.specs.Passed.{signals, nodesMost, signalsMost, linesWritten}
-use Rattle.comparison.specs.Lines.{Entry, split, HoldsLines}
-use Rattle.comparison.specs.Blocks.{Members, Split}
-use Rattle.comparison.specs.Refinement.{LinesIn, Refinement, Parted, Lined}
-use Rattle.comparison.specs.Tables.{State, firstOf, secondOf, lineOf, Room, SplitBlock, OfNodes}
-use Rattle.comparison.specs.Stages.{Staged, Ready}
+use Rattle.comparison.specs.inner.Lines.{Entry, split, HoldsLines}
+use Rattle.comparison.specs.inner.Blocks.{Members, Split}
+use Rattle.comparison.specs.inner.Refinement.{LinesIn, Refinement, Parted, Lined}
+use Rattle.comparison.specs.inner.Tables.{State, firstOf, secondOf, lineOf, Room, SplitBlock, OfNodes}
+use Rattle.comparison.specs.inner.Stages.{Staged, Ready}
 use Rattle.comparison.proofs.AddedLines.{entry-above}
 use Rattle.comparison.proofs.ExactLines.{exact-kept, split-down, split-length}
 use Rattle.comparison.proofs.Refinement.{met, splits}

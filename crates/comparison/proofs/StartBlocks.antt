@@ -11,8 +11,8 @@ use Rattle.truth.specs.Sizes.{membersMost}
 use Rattle.truth.specs.Passed.{nodes, each, nodesMost}
 use Rattle.truth.proofs.Passed.{and-left, and-right, and-both, each-at, each-in, find, start-node}
 use Rattle.truth.proofs.labelling.StartRows.{startTest, start-tested, tested-start}
-use Rattle.comparison.specs.Blocks.{Members, HasStart, OneStart}
-use Rattle.comparison.specs.Sides.{OneSided}
+use Rattle.comparison.specs.inner.Blocks.{Members, HasStart, OneStart}
+use Rattle.comparison.specs.inner.Sides.{OneSided}
 
 module _ (M : List ℕ) (small : nodes M ≤ nodesMost) (x : ℕ → Bool) (starts : (s : ℕ) → x s ≡ startTest M small s) where
   -- the block meets the row

@@ -7,14 +7,14 @@ use mathlib.Core.Bool.{Bool, true, false, not, _&&_, _||_}
 use lib.Dec.{T, T-not, not-T}
 use Rattle.truth.specs.Sizes.{membersMost}
 use Rattle.truth.specs.Passed.{each}
-use Rattle.truth.specs.Rows.{rowHas, marksInto, First}
+use Rattle.truth.specs.inner.Rows.{rowHas, marksInto, First}
 use Rattle.truth.specs.declared.rows.Row.{Row}
 use Rattle.truth.proofs.Passed.{and-left, and-right, and-both, dec-test}
 use Rattle.truth.proofs.rows.RowLaws.{none-passes}
 use Rattle.truth.proofs.rows.RowWalks.{Less, less-in, less-or, Sorted}
-use Rattle.comparison.specs.Blocks.{Members, In, AllIn, Meets, Unsplit, Split}
-use Rattle.comparison.specs.Tables.{OfNodes}
-use Rattle.comparison.specs.Signatures.{TellsApart, TellsUnlike, Alone, Led, TellsMark}
+use Rattle.comparison.specs.inner.Blocks.{Members, In, AllIn, Meets, Unsplit, Split}
+use Rattle.comparison.specs.inner.Tables.{OfNodes}
+use Rattle.comparison.specs.inner.Signatures.{TellsApart, TellsUnlike, Alone, Led, TellsMark}
 use Rattle.comparison.specs.declared.signatures.Lead.{Lead}
 use Rattle.comparison.proofs.MarkedBlocks.{same-test}
 

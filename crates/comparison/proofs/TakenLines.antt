@@ -6,7 +6,7 @@ use mathlib.Core.List.{List}
 use lib.ListN.{length, getD}
 use lib.Seq.{getD-take}
 use Rattle.truth.specs.Passed.{lineWords}
-use Rattle.comparison.specs.Lines.{Entry, sig, neg, alt, next, words, writtenWords, entry, HoldsLines}
+use Rattle.comparison.specs.inner.Lines.{Entry, sig, neg, alt, next, words, writtenWords, entry, HoldsLines}
 use Rattle.comparison.proofs.Lines.{word-of-line}
 
 by-zero : (l : Entry) → getD (words l) 0 0 ≡ 0 → l ≡ sig (getD (words l) 1 0)

@@ -10,8 +10,8 @@ use Rattle.truth.specs.Truth.{Keeps}
 use Rattle.truth.proofs.Passed.{start-node}
 use Rattle.truth.proofs.LentTruth.{same-keeps}
 use Rattle.comparison.specs.Comparison.{ToldApart}
-use Rattle.comparison.specs.Lines.{Entry, neg, sheet, Refers, Downward}
-use Rattle.comparison.specs.Blocks.{TrueIn, Exact, Members, HasStart, OneStart}
+use Rattle.comparison.specs.inner.Lines.{Entry, neg, sheet, Refers, Downward}
+use Rattle.comparison.specs.inner.Blocks.{TrueIn, Exact, Members, HasStart, OneStart}
 use Rattle.comparison.proofs.Lines.{lines-are}
 use Rattle.comparison.proofs.TrueLines.{true-neg}
 use Rattle.comparison.proofs.AddedLines.{entry-one, down-one, true-kept}

@@ -9,8 +9,8 @@ use Rattle.truth.specs.Passed.{kripke, nodes, signals, each, lifted, lineWords}
 use Rattle.truth.specs.Truth.{Keeps}
 use Rattle.truth.proofs.Passed.{or-cases, each-at, start-node}
 use Rattle.comparison.specs.Comparison.{Equal, Agreed}
-use Rattle.comparison.specs.Lines.{Entry, sheet, Downward}
-use Rattle.comparison.specs.Blocks.{Exact}
+use Rattle.comparison.specs.inner.Lines.{Entry, sheet, Downward}
+use Rattle.comparison.specs.inner.Blocks.{Exact}
 use Rattle.comparison.proofs.Lines.{lines-are}
 use Rattle.comparison.proofs.LinesAccepted.{rule}
 

@@ -11,8 +11,8 @@ use Rattle.truth.specs.Truth.{Truths, Means}
 use Rattle.truth.proofs.Passed.{sum-iff, edge-stays}
 use Rattle.truth.proofs.Recursion.{truth-recursion}
 use Rattle.truth.proofs.Decided.{truth-decided}
-use Rattle.comparison.specs.Lines.{Entry, sig, neg, alt, next, sheet, entry, Refers, Downward}
-use Rattle.comparison.specs.Blocks.{TrueIn}
+use Rattle.comparison.specs.inner.Lines.{Entry, sig, neg, alt, next, sheet, entry, Refers, Downward}
+use Rattle.comparison.specs.inner.Blocks.{TrueIn}
 use Rattle.comparison.proofs.Lines.{lines-are, decoded, line-is, argument-is}
 use Rattle.comparison.proofs.LinesAccepted.{accepted}
 use Rattle.comparison.proofs.NextStep.{next-step, is-next}

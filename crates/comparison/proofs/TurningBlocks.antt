@@ -9,15 +9,15 @@ use mathlib.Core.Bool.{Bool, _&&_, _||_}
 use lib.Dec.{T, leb, eqb, eqb-refl, le→leb}
 use Rattle.truth.specs.Sizes.{membersMost}
 use Rattle.truth.specs.Passed.{nodes, within, nodesMost}
-use Rattle.truth.specs.Rows.{marksInto, leadsInto}
+use Rattle.truth.specs.inner.Rows.{marksInto, leadsInto}
 use Rattle.truth.proofs.Passed.{and-both, or-left, within-in}
 use Rattle.truth.proofs.rows.RowLaws.{held-in}
-use Rattle.comparison.specs.Lines.{next, Adds}
-use Rattle.comparison.specs.Blocks.{In, Meets, Unsplit, Split}
-use Rattle.comparison.specs.Refinement.{LinesIn}
-use Rattle.comparison.specs.Tables.{State, firstOf, secondOf, lineOf, written, Room, SplitBlock, OfNodes}
-use Rattle.comparison.specs.Stages.{Staged, Ready, Finer}
-use Rattle.comparison.specs.Signatures.{MarkedRow, BlockMarks, MarksIn, TellsMark, Turned}
+use Rattle.comparison.specs.inner.Lines.{next, Adds}
+use Rattle.comparison.specs.inner.Blocks.{In, Meets, Unsplit, Split}
+use Rattle.comparison.specs.inner.Refinement.{LinesIn}
+use Rattle.comparison.specs.inner.Tables.{State, firstOf, secondOf, lineOf, written, Room, SplitBlock, OfNodes}
+use Rattle.comparison.specs.inner.Stages.{Staged, Ready, Finer}
+use Rattle.comparison.specs.inner.Signatures.{MarkedRow, BlockMarks, MarksIn, TellsMark, Turned}
 use Rattle.comparison.proofs.FinerBlocks.{unsplit-as, split-as, finer-none, finer-then, finer-split}
 use Rattle.comparison.proofs.StagedSplits.{blocks-fit, room, ready-again}
 use Rattle.comparison.proofs.Splitters.{ready-written}

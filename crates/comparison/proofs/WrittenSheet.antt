@@ -9,7 +9,7 @@ use Rattle.truth.specs.Passed.{nodes, signals, lines, lent, overSignals, machin
 use Rattle.truth.proofs.Passed.{signals-sized}
 use Rattle.truth.proofs.labelling.LabelTable.{label-accepts}
 use Rattle.comparison.specs.Comparison.{Written, ToldApart, ruleHead}
-use Rattle.comparison.specs.Lines.{Entry, sheet, Downward}
+use Rattle.comparison.specs.inner.Lines.{Entry, sheet, Downward}
 use Rattle.comparison.proofs.Lines.{lines-are}
 use Rattle.comparison.proofs.LinesAccepted.{accepted-lent, over-signals}
 

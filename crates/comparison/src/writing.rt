@@ -4,8 +4,8 @@ ghost use mathlib.Core.List.{[], _∷_, _++_};
 ghost use Prim.Native.Nat.{_+_, _*_, _<_, _≤_};
 ghost use lib.ListN.{length, take};
 ghost use Rattle.truth.specs.Passed.{lineWords};
-ghost use Rattle.comparison.specs.Sizes.{writtenSpace, writtenMost};
-ghost use Rattle.comparison.specs.Lines.{sig, neg, alt, next, signalLines, firstLines, split, HoldsLines, Adds};
+ghost use Rattle.comparison.specs.inner.Sizes.{writtenSpace, writtenMost};
+ghost use Rattle.comparison.specs.inner.Lines.{sig, neg, alt, next, signalLines, firstLines, split, HoldsLines, Adds};
 use crate::sizes;
 use truth::header;
 

@@ -7,6 +7,7 @@ use mathlib.Core.List.{List, map}
 use mathlib.Core.Bool.{Bool, not, _&&_}
 use lib.ListN.{length, getD}
 use lib.Dec.{T, not-T, leb, leb→le, ltb, eqb, eqb→eq}
+use Rattle.sheets.specs.Format.{ruleHeader, nextStatePlace}
 use Rattle.sheets.specs.Words.{bit, allOf, member}
 use Rattle.sheets.specs.Rules.{Form, states, automata, variables, initial, statesOf, transitions, transitionsOf, transitionTarget, mask, stateWord, automaton, leads, transitionsFit, distinct, fits, unmixed, lines, lineWord, lineFits, ruleRefusal, q7, q9, q10, automatonFits, q12, q14, q15}
 use Rattle.sheets.proofs.Tests.{and-left, and-right, and-both}
@@ -23,12 +24,12 @@ module _ (F : Form) (R : List ℕ) (accepted : ruleRefusal F R ≡ 0) where
   pub some-line : 1 ≤ lines R
   unfolding q7
   some-line =
-      let sizes = leb 4 (length R) && fits (F .automata) (automata R) && fits (F .states) (states R) && fits (F .transitions) (transitions R) in
+      let sizes = leb ruleHeader (length R) && fits (F .automata) (automata R) && fits (F .states) (states R) && fits (F .transitions) (transitions R) in
       leb→le 1 (lines R) (and-right sizes (leb 1 (lines R)) (and-left (sizes && leb 1 (lines R)) (fits (F .lines) (lines R)) (answers .seven)))
 
-  state-link : (q : ℕ) → 1 ≤ q → q ≤ states R → stateWord R q 2 ≤ states R
+  state-link : (q : ℕ) → 1 ≤ q → q ≤ states R → stateWord R q nextStatePlace ≤ states R
   unfolding q10
-  state-link q lo hi = link-most (states R) q (stateWord R q 2) (search (and-right, each-at (states R) _ (answers .ten) q lo hi))
+  state-link q lo hi = link-most (states R) q (stateWord R q nextStatePlace) (search (and-right, each-at (states R) _ (answers .ten) q lo hi))
 
   -- line j passes question 15
   pub line-fits : (j : ℕ) → 1 ≤ j → j ≤ lines R → T (lineFits F R j (lineWord F R j 0))
@@ -44,12 +45,12 @@ module _ (F : Form) (R : List ℕ) (accepted : ruleRefusal F R ≡ 0) where
     -- its initial state is among its states
     pub initial-on : T (member (initial R x) (statesOf R x))
     unfolding statesOf
-    initial-on = let h = initial-in in chain-first (states R) (λ q. stateWord R q 2) (initial R x) (omega arith) (h .0)
+    initial-on = let h = initial-in in chain-first (states R) (λ q. stateWord R q nextStatePlace) (initial R x) (omega arith) (h .0)
 
     -- which is the first on its chain
     pub first-state : getD (statesOf R x) 0 0 ≡ initial R x
     unfolding statesOf
-    first-state = let h = initial-in in chain-head (states R) (λ q. stateWord R q 2) (initial R x) (omega arith) (h .0)
+    first-state = let h = initial-in in chain-head (states R) (λ q. stateWord R q nextStatePlace) (initial R x) (omega arith) (h .0)
 
     -- it stays on them, along edges with nonzero masks
     edge-fits : (q y : ℕ) → T (member q (statesOf R x)) → T (member y (transitionsOf R q)) → T (member (transitionTarget R y) (statesOf R x))

@@ -10,10 +10,11 @@ use borrow.Author.Tests.{le-leb, lt-leb, ne-eqb}
 use lib.ListN.{length, getD, take, drop}
 use lib.Seq.{length-take-le, getD-take, ext-getD}
 use lib.Dec.{T, leb, eqb, ltb, leb→le}
+use Rattle.sheets.specs.Format.{chainedMost, variablesMost}
 use Rattle.sheets.specs.Words.{bit, within, allOf, howMany, chain}
 use Rattle.sheets.specs.Rules.{most, fits, lent, automata, states, variables, initial, statesOf, transitionsOf, mask, transitionsFit, automatonFits, q9}
-use Rattle.sheets.specs.Gathered.{Listed}
-use Rattle.sheets.specs.Transitions.{Leaves}
+use Rattle.sheets.specs.inner.Gathered.{Listed}
+use Rattle.sheets.specs.inner.Transitions.{Leaves}
 use Rattle.sheets.specs.declared.along.Numbers.{Numbers}
 use Rattle.sheets.specs.declared.transitions.Leaving.{Leaving}
 use Rattle.sheets.proofs.Tests.{and-left}
@@ -41,19 +42,19 @@ abbrev pub fitting : List ℕ → ℕ → ℕ → Bool
 fitting R x q = transitionsFit R (variables R x) (statesOf R x) (transitionsOf R q)
 
 module _ (R : List ℕ) (x : ℕ) {n : ℕ} (counted : n ≡ length (statesOf R x)) where
-  pub fits-if-few : n ≤ 16 → automatonFits lent R x ≡ allOf (statesOf R x) (fitting R x)
+  pub fits-if-few : n ≤ chainedMost → automatonFits lent R x ≡ allOf (statesOf R x) (fitting R x)
   unfolding automatonFits lent fits
-  fits-if-few h = rw (le-leb (length (statesOf R x)) 16 (rw counted at h))
+  fits-if-few h = rw (le-leb (length (statesOf R x)) chainedMost (rw counted at h))
 
-  pub unfit-if-many : 16 < n → automatonFits lent R x ≡ false
+  pub unfit-if-many : chainedMost < n → automatonFits lent R x ≡ false
   unfolding automatonFits lent fits
-  unfit-if-many h = rw (lt-leb (length (statesOf R x)) 16 (rw counted at h))
+  unfit-if-many h = rw (lt-leb (length (statesOf R x)) chainedMost (rw counted at h))
 
 -- the list that was read, of at most 16
-module _ (ys : List ℕ) (all : Numbers) (listed : Listed ys all) (few : all .count ≤ 16) where
+module _ (ys : List ℕ) (all : Numbers) (listed : Listed ys all) (few : all .count ≤ chainedMost) where
   pub listed-at : (k : ℕ) → getD (all .numbers) k 0 ≡ getD ys k 0
   listed-at k =
-      ⊎-elim (λ le. past-end (all .numbers) k (omega (arith, listed .room)) ∙ sym (past-end ys k (omega (arith, listed .count)))) (λ lt. listed .each k lt) (le-or-gt 16 k)
+      ⊎-elim (λ le. past-end (all .numbers) k (omega (arith, listed .room)) ∙ sym (past-end ys k (omega (arith, listed .count)))) (λ lt. listed .each k lt) (le-or-gt chainedMost k)
 
   pub listed-all : take (all .count) (all .numbers) ≡ ys
   listed-all =
@@ -62,12 +63,12 @@ module _ (ys : List ℕ) (all : Numbers) (listed : Listed ys all) (few : all .co
       (λ i l. getD-take (all .count) (all .numbers) i 0 (omega (arith, size)) ∙ listed-at i)
 
 -- question 12 of the state at position k
-pub fits-there : (R : List ℕ) (x k v : ℕ) (all : Numbers) (out : Leaving) {small : Bool} → Listed (statesOf R x) all → all .count ≤ 16 → v ≡ variables R x
+pub fits-there : (R : List ℕ) (x k v : ℕ) (all : Numbers) (out : Leaving) {small : Bool} → Listed (statesOf R x) all → all .count ≤ chainedMost → v ≡ variables R x
     → Leaves R (all .numbers) (all .count) (getD (all .numbers) k 0) out → small ≡ ltb (out .once) (2 ^ (2 ^ v)) → (out .fits && small) ≡ fitting R x (getD (statesOf R x) k 0)
 fits-there R x k v all out listed few ev leaves e =
     ap (λ b. out .fits && b) e ∙ leaves .fitting v ∙ rw (ev, listed-all (statesOf R x) all listed few, listed-at (statesOf R x) all listed few k)
 
--- ---- a chain that is read 16 records at a time
+-- ---- a chain that is read in pieces
 
 -- the chain goes on after its record at position k
 chain-after : (f : ℕ) (next : ℕ → ℕ) (x k : ℕ) → k < length (chain f next x) → drop (suc k) (chain f next x) ≡ chain (f - suc k) next (next (getD (chain f next x) k 0))
@@ -84,30 +85,30 @@ all-split p (suc n) [] = refl
 all-split p (suc n) (x ∷ xs) = ap (λ b. p x && b) (all-split p n xs) ∙ sym (and-assoc (p x) (allOf (take n xs) p) (allOf (drop n xs) p))
 
 module _ (p : ℕ → Bool) (f x : ℕ) (next : ℕ → ℕ) (all : Numbers) (listed : Listed (chain f next x) all) where
-  pub block-last : all .count ≤ 16 → allOf (chain f next x) p ≡ allOf (take (all .count) (all .numbers)) p
+  pub block-last : all .count ≤ chainedMost → allOf (chain f next x) p ≡ allOf (take (all .count) (all .numbers)) p
   block-last few = rw (listed-all (chain f next x) all listed few)
 
-  module _ (many : 16 < all .count) where
-    pub block-left : 16 < f
+  module _ (many : chainedMost < all .count) where
+    pub block-left : chainedMost < f
     block-left = omega (arith, listed .count, rest-most (λ y k. next y) 3 f x)
 
-    block-more : allOf (chain f next x) p ≡ (allOf (take 16 (all .numbers)) p && allOf (chain (f - 16) next (next (getD (all .numbers) 15 0))) p)
+    block-more : allOf (chain f next x) p ≡ (allOf (take chainedMost (all .numbers)) p && allOf (chain (f - chainedMost) next (next (getD (all .numbers) 15 0))) p)
     block-more =
-        let long : 16 < length (chain f next x) = omega (arith, listed .count) in
-        let size : length (take 16 (all .numbers)) ≡ 16 = length-take-le 16 (all .numbers) (omega (arith, listed .room)) in
-        let same : take 16 (all .numbers) ≡ take 16 (chain f next x) =
-        ext-getD 0 (take 16 (all .numbers)) (take 16 (chain f next x)) (size ∙ sym (length-take-le 16 (chain f next x) (omega arith)))
-        (λ i l. let m : i < 16 = omega (arith, size) in getD-take 16 (all .numbers) i 0 m ∙ listed .each i m ∙ sym (getD-take 16 (chain f next x) i 0 m)) in
-        rw (same, listed .each 15 (omega arith), ← (chain-after f next x 15 (omega arith))) (all-split p 16 (chain f next x))
+        let long : chainedMost < length (chain f next x) = omega (arith, listed .count) in
+        let size : length (take chainedMost (all .numbers)) ≡ chainedMost = length-take-le chainedMost (all .numbers) (omega (arith, listed .room)) in
+        let same : take chainedMost (all .numbers) ≡ take chainedMost (chain f next x) =
+        ext-getD 0 (take chainedMost (all .numbers)) (take chainedMost (chain f next x)) (size ∙ sym (length-take-le chainedMost (chain f next x) (omega arith)))
+        (λ i l. let m : i < chainedMost = omega (arith, size) in getD-take chainedMost (all .numbers) i 0 m ∙ listed .each i m ∙ sym (getD-take chainedMost (chain f next x) i 0 m)) in
+        rw (same, listed .each 15 (omega arith), ← (chain-after f next x 15 (omega arith))) (all-split p chainedMost (chain f next x))
 
-    pub block-fails : {b : Bool} → b ≡ allOf (take 16 (all .numbers)) p → b ≡ false → allOf (chain f next x) p ≡ false
+    pub block-fails : {b : Bool} → b ≡ allOf (take chainedMost (all .numbers)) p → b ≡ false → allOf (chain f next x) p ≡ false
     block-fails e f = block-more ∙ rw (sym e ∙ f)
 
-    pub block-passes : {b : Bool} {y : ℕ} → b ≡ allOf (take 16 (all .numbers)) p → b ≡ true → y ≡ next (getD (all .numbers) 15 0) → allOf (chain f next x) p ≡ allOf (chain (f - 16) next y) p
+    pub block-passes : {b : Bool} {y : ℕ} → b ≡ allOf (take chainedMost (all .numbers)) p → b ≡ true → y ≡ next (getD (all .numbers) 15 0) → allOf (chain f next x) p ≡ allOf (chain (f - chainedMost) next y) p
     block-passes e t ey = block-more ∙ rw (sym e ∙ t, ey)
 
 -- the variables that question 9 has bounded
-pub few-variables : (R : List ℕ) (x : ℕ) → T (q9 lent R) → 1 ≤ x → x ≤ automata R → variables R x ≤ 4
+pub few-variables : (R : List ℕ) (x : ℕ) → T (q9 lent R) → 1 ≤ x → x ≤ automata R → variables R x ≤ variablesMost
 unfolding q9 lent fits
 few-variables R x t lo hi =
-    leb→le (variables R x) 4 (and-left (fits (most 4) (variables R x)) (within 1 (states R) (initial R x)) (each-at (automata R) _ t x lo hi))
+    leb→le (variables R x) 4 (and-left (fits (most variablesMost) (variables R x)) (within 1 (states R) (initial R x)) (each-at (automata R) _ t x lo hi))

@@ -6,7 +6,7 @@ use mathlib.Core.Bool.{Bool, true, false}
 use lib.Dec.{T}
 use Rattle.sheets.specs.Structures as Structures
 use Rattle.sheets.specs.Rules.{lent, lineWord, lineFits, lineOf, line, signalMost}
-use Rattle.sheets.specs.Lines.{handed, decodedAs, decoded, mostOf}
+use Rattle.sheets.specs.inner.Lines.{handed, decodedAs, decoded, mostOf}
 use Rattle.sheets.specs.declared.lines.Line.{Line}
 use Rattle.sheets.specs.declared.lines.Decoded.{Decoded}
 use Rattle.sheets.specs.declared.lines.Decoded.the-variants.{Formed, Malformed}

@@ -10,13 +10,13 @@ use lib.ListN.{length, getD, take}
 use lib.Seq.{length-take-le, getD-take}
 use lib.Bits.{bitAnd, bitOr}
 use lib.Dec.{T, leb, ltb, eqb, eqb→eq, ltb→lt}
-use Rattle.sheets.specs.Format.{transitionWords, firstTransitionPlace, transitionsFrom}
+use Rattle.sheets.specs.Format.{transitionWords, firstTransitionPlace, transitionsFrom, chainedMost}
 use Rattle.sheets.specs.Words.{bit, indicator, howMany, allOf, anyOf, member}
-use Rattle.sheets.specs.Positions.{someBelow, standsAt}
+use Rattle.sheets.specs.inner.Positions.{someBelow, standsAt}
 use Rattle.sheets.specs.Records.{recordWord}
 use Rattle.sheets.specs.Rules.{automata, states, transitions, stateWord, transitionWord, transitionsOf, transitionTarget, mask, distinct, transitionsFit, leads}
-use Rattle.sheets.specs.Gathered.{records, Along}
-use Rattle.sheets.specs.Transitions.{Left, LeavingTaken, Leaves}
+use Rattle.sheets.specs.inner.Gathered.{records, Along}
+use Rattle.sheets.specs.inner.Transitions.{Left, LeavingTaken, Leaves}
 use Rattle.sheets.specs.declared.words.Step.{Step}
 use Rattle.sheets.specs.declared.words.Step.the-variants.{Record}
 use Rattle.sheets.specs.declared.transitions.Leaving.{Leaving}
@@ -43,7 +43,7 @@ module _ (masks : List ℕ) (set mask k : ℕ) where
 -- ---- a transition more, as `with_leaving` has it
 
 module _ (a : Leaving) {s : Step} {x t m y : ℕ} (e : s ≡ Record x t m y) where
-  pub left-wide : 16 < a .n → LeavingTaken a s a
+  pub left-wide : chainedMost < a .n → LeavingTaken a s a
   left-wide h = subst (λ (s : Step). LeavingTaken a s a) (sym e) (λ small. absurd (omega arith))
 
   module _ (here led : ℕ) (masks : List ℕ) (there again : Bool) where
@@ -62,11 +62,11 @@ module _ (a : Leaving) {s : Step} {x t m y : ℕ} (e : s ≡ Record x t m y) whe
     pub left-more : ((k : ℕ) → bit here k ≡ standsAt (a .states) (a .n) t k)
         → ((k w : ℕ) → k < a .n → bit (getD masks k 0) w ≡ (bit (getD (a .masks) k 0) w || (bit m w && bit here k)))
         → ((k : ℕ) → bit led k ≡ (not (eqb m 0) && bit here k))
-        → there ≡ someBelow 16 (bit here) → again ≡ someBelow 16 (bit (bitAnd here (a .met))) → LeavingTaken a s after
+        → there ≡ someBelow chainedMost (bit here) → again ≡ someBelow chainedMost (bit (bitAnd here (a .met))) → LeavingTaken a s after
     left-more at masked marked some met =
-        let on : there ≡ someBelow 16 (standsAt (a .states) (a .n) t) = some ∙ some-same (bit here) (standsAt (a .states) (a .n) t) at 16 in
-        let twice : again ≡ someBelow 16 (λ k. standsAt (a .states) (a .n) t k && bit (a .met) k) =
-        met ∙ some-same (bit (bitAnd here (a .met))) (λ k. standsAt (a .states) (a .n) t k && bit (a .met) k) (λ k. bit-and here (a .met) k ∙ ap (λ b. b && bit (a .met) k) (at k)) 16 in
+        let on : there ≡ someBelow chainedMost (standsAt (a .states) (a .n) t) = some ∙ some-same (bit here) (standsAt (a .states) (a .n) t) at chainedMost in
+        let twice : again ≡ someBelow chainedMost (λ k. standsAt (a .states) (a .n) t k && bit (a .met) k) =
+        met ∙ some-same (bit (bitAnd here (a .met))) (λ k. standsAt (a .states) (a .n) t k && bit (a .met) k) (λ k. bit-and here (a .met) k ∙ ap (λ b. b && bit (a .met) k) (at k)) chainedMost in
         subst (λ (s : Step). LeavingTaken a s after) (sym e) (λ small. record {
           states = refl;
           n = refl;
@@ -78,14 +78,14 @@ module _ (a : Leaving) {s : Step} {x t m y : ℕ} (e : s ≡ Record x t m y) whe
           fits = rw (on, twice);
         })
 
-module _ (states : List ℕ) (n : ℕ) (few : n ≤ 16) where
+module _ (states : List ℕ) (n : ℕ) (few : n ≤ chainedMost) where
   -- t stands at some position
   abbrev on : ℕ → Bool
-  on t = someBelow 16 (standsAt states n t)
+  on t = someBelow chainedMost (standsAt states n t)
 
   -- t stands at a position of a set
   abbrev among : (ℕ → Bool) → ℕ → Bool
-  among met t = someBelow 16 (λ k. standsAt states n t k && met k)
+  among met t = someBelow chainedMost (λ k. standsAt states n t k && met k)
 
   at-place : (t k : ℕ) → T (standsAt states n t k) → (k < n) × (t ≡ getD states k 0)
   at-place t k h = (ltb→lt k n (and-left (ltb k n) (eqb t (getD states k 0)) h), eqb→eq t (getD states k 0) (and-right (ltb k n) (eqb t (getD states k 0)) h))
@@ -101,7 +101,7 @@ module _ (states : List ℕ) (n : ℕ) (few : n ≤ 16) where
 
       there : T (on t) → T (member t (take n states))
       there h =
-          let r = some-at (standsAt states n t) 16 h in
+          let r = some-at (standsAt states n t) chainedMost h in
           let p = at-place t (r .0) (r .2) in
           rw (p .1, ← (getD-take n states (r .0) 0 (p .0))) (place-in (take n states) (r .0) (omega (arith, p .0, size)))
 
@@ -109,7 +109,7 @@ module _ (states : List ℕ) (n : ℕ) (few : n ≤ 16) where
       back h =
           let r = place-of (take n states) t h in
           let l : r .0 < n = omega (arith, r .1, size) in
-          some-in (standsAt states n t) 16 (r .0) (omega arith) (in-place t (r .0) l (sym (sym (getD-take n states (r .0) 0 l) ∙ r .2)))
+          some-in (standsAt states n t) chainedMost (r .0) (omega arith) (in-place t (r .0) l (sym (sym (getD-take n states (r .0) 0 l) ∙ r .2)))
 
   -- the set with the positions of t more
   among-more : (met now : ℕ → Bool) (t u : ℕ) → ((k : ℕ) → now k ≡ (met k || standsAt states n t k)) → among now u ≡ (among met u || (on t && eqb t u))
@@ -117,27 +117,27 @@ module _ (states : List ℕ) (n : ℕ) (few : n ≤ 16) where
     where
       there : T (among now u) → T (among met u || (on t && eqb t u))
       there h =
-          let r = some-at (λ k. standsAt states n u k && now k) 16 h in
+          let r = some-at (λ k. standsAt states n u k && now k) chainedMost h in
           let k = r .0 in
           let s = and-left (standsAt states n u k) (now k) (r .2) in
-          ⊎-elim (λ m. or-left (among met u) (on t && eqb t u) (some-in (λ k. standsAt states n u k && met k) 16 k (r .1) (and-both (standsAt states n u k) (met k) s m)))
-          (λ m. or-right (among met u) (on t && eqb t u) (and-both (on t) (eqb t u) (some-in (standsAt states n t) 16 k (r .1) m) (rw (eq-eqb t u (at-place t k m .1 ∙ sym (at-place u k s .1))) tt)))
+          ⊎-elim (λ m. or-left (among met u) (on t && eqb t u) (some-in (λ k. standsAt states n u k && met k) chainedMost k (r .1) (and-both (standsAt states n u k) (met k) s m)))
+          (λ m. or-right (among met u) (on t && eqb t u) (and-both (on t) (eqb t u) (some-in (standsAt states n t) chainedMost k (r .1) m) (rw (eq-eqb t u (at-place t k m .1 ∙ sym (at-place u k s .1))) tt)))
           (or-cases (met k) (standsAt states n t k) (rw (more k) at (and-right (standsAt states n u k) (now k) (r .2))))
 
       back : T (among met u || (on t && eqb t u)) → T (among now u)
       back h =
           ⊎-elim
           (λ m.
-          let r = some-at (λ k. standsAt states n u k && met k) 16 m in
+          let r = some-at (λ k. standsAt states n u k && met k) chainedMost m in
           let k = r .0 in
-          some-in (λ k. standsAt states n u k && now k) 16 k (r .1)
+          some-in (λ k. standsAt states n u k && now k) chainedMost k (r .1)
           (and-both (standsAt states n u k) (now k) (and-left (standsAt states n u k) (met k) (r .2)) (rw (more k) (or-left (met k) (standsAt states n t k) (and-right (standsAt states n u k) (met k) (r .2))))))
           (λ m.
-          let r = some-at (standsAt states n t) 16 (and-left (on t) (eqb t u) m) in
+          let r = some-at (standsAt states n t) chainedMost (and-left (on t) (eqb t u) m) in
           let k = r .0 in
           let p = at-place t k (r .2) in
           let s = in-place u k (p .0) (sym (eqb→eq t u (and-right (on t) (eqb t u) m)) ∙ p .1) in
-          some-in (λ k. standsAt states n u k && now k) 16 k (r .1) (and-both (standsAt states n u k) (now k) s (rw (more k) (or-right (met k) (standsAt states n t k) (r .2)))))
+          some-in (λ k. standsAt states n u k && now k) chainedMost k (r .1) (and-both (standsAt states n u k) (now k) s (rw (more k) (or-right (met k) (standsAt states n t k) (r .2)))))
           (or-cases (among met u) (on t && eqb t u) h)
 
   gathered : (m o e b c : Bool) → ((m || (o && e)) || (b || (o && c))) ≡ ((m || b) || (o && (e || c)))
@@ -182,7 +182,7 @@ module _ (states : List ℕ) (n : ℕ) (few : n ≤ 16) where
 
     fit-none : (met : ℕ → Bool) (ys : List ℕ) → ((k : ℕ) → met k ≡ false) → (allOf ys (λ y. on (target y)) && distinct (map target ys)) ≡ fitting met ys
     fit-none met ys none =
-        rw (any-none ys (λ y. among met (target y)) (λ y. some-false 16 (λ k. standsAt states n (target y) k && met k) (λ k. rw (none k) (and-false (standsAt states n (target y) k)))))
+        rw (any-none ys (λ y. among met (target y)) (λ y. some-false chainedMost (λ k. standsAt states n (target y) k && met k) (λ k. rw (none k) (and-false (standsAt states n (target y) k)))))
         (sym (and-true (allOf ys (λ y. on (target y)) && distinct (map target ys))))
 
 fitted : (p q r : ℕ → Bool) → ((y : ℕ) → q y ≡ r y) → (ys : List ℕ) (d : Bool) → ((allOf ys q && d) && allOf ys p) ≡ (allOf ys (λ y. p y && r y) && d)
@@ -195,7 +195,7 @@ fitted p q r h ys d = last (allOf ys q) (allOf ys p) d ∙ ap (λ z. z && d) (al
 
 -- ---- at the chain's end
 
-module _ (read : ℕ → ℕ → ℕ) (left x : ℕ) (a r : Leaving) (few : a .n ≤ 16) (along : Along LeavingTaken (records read 3 left x) a r) where
+module _ (read : ℕ → ℕ → ℕ) (left x : ℕ) (a r : Leaving) (few : a .n ≤ chainedMost) (along : Along LeavingTaken (records read 3 left x) a r) where
   abbrev Same : Leaving → Type 0
   Same b = (b .states ≡ a .states) × (b .n ≡ a .n)
 
@@ -260,7 +260,7 @@ module _ (read : ℕ → ℕ → ℕ) (left x : ℕ) (a r : Leaving) (few : a .n
         sym (fit-none (a .states) (a .n) few (λ y. read y 0) (bit (a .met)) all no-met ∙ end .1 ∙ and-true (r .fits))
 
 -- from no transition, along those out of state q
-pub leaves-along : (R : List ℕ) (q base x left : ℕ) (a r : Leaving) → base ≡ transitionsFrom (automata R) (states R) → x ≡ stateWord R q firstTransitionPlace → left ≡ transitions R → a .n ≤ 16 → length (a .states) ≡ 16
+pub leaves-along : (R : List ℕ) (q base x left : ℕ) (a r : Leaving) → base ≡ transitionsFrom (automata R) (states R) → x ≡ stateWord R q firstTransitionPlace → left ≡ transitions R → a .n ≤ chainedMost → length (a .states) ≡ chainedMost
     → ((k : ℕ) → getD (a .masks) k 0 ≡ 0) → a .met ≡ 0 → a .led ≡ 0 → a .once ≡ 0 → a .twice ≡ 0 → a .fits ≡ true
     → Along LeavingTaken (records (recordWord R base transitionWords) transitionWords left x) a r → Leaves R (a .states) (a .n) q r
 unfolding recordWord transitionWord transitionsOf mask transitionTarget transitionsFit leads

@@ -13,8 +13,8 @@ use Rattle.sheets.specs.Format.{chainedMost}
 use Rattle.sheets.specs.Words.{bit, within, anyOf}
 use Rattle.sheets.specs.Rules.{variables, statesOf, accepting, transitionsOf, transitionTarget, mask, automaton}
 use Rattle.sheets.specs.Positioned.{stateCount, stateOf, positioned}
-use Rattle.sheets.specs.Gathered.{Listed}
-use Rattle.sheets.specs.Tabled.{Tabled}
+use Rattle.sheets.specs.inner.Gathered.{Listed}
+use Rattle.sheets.specs.inner.Tabled.{Tabled}
 use Rattle.sheets.specs.declared.along.Numbers.{Numbers}
 use Rattle.sheets.specs.declared.position.ByPosition.{ByPosition}
 use Rattle.sheets.proofs.Tests.{passed}

@@ -12,7 +12,7 @@ use lib.ListN.{length, getD, set, take}
 use lib.Seq.{length-take-le, getD-take, getD-set-same, getD-set-other}
 use lib.Dec.{T, T-not, not-T, ltb, eqb, eqb→eq, eqb-refl}
 use Rattle.sheets.specs.Words.{bit, allOf, anyOf, member}
-use Rattle.sheets.specs.Positions.{someBelow}
+use Rattle.sheets.specs.inner.Positions.{someBelow}
 use Rattle.sheets.proofs.Tests.{or-left, or-right, or-cases, passed, surely}
 use Rattle.sheets.proofs.Search.{le-or-gt}
 use Rattle.sheets.proofs.Bits.{bits-same, no-bit}

@@ -9,9 +9,10 @@ use mathlib.Core.Bool.{Bool, not, _&&_, _||_}
 use borrow.Author.Tests.{lt-ltb}
 use lib.ListN.{length, getD}
 use lib.Dec.{T, T-not, not-T, leb, leb→le, ltb}
+use Rattle.sheets.specs.Format.{chainedMost}
 use Rattle.sheets.specs.Words.{bit, member, anyOf, allOf}
 use Rattle.sheets.specs.Rules.{fits, lent, automata, variables, statesOf, transitionsOf, transitionsFit, automatonFits, q12, leads, accepting, passing, reached, walks, unmixed}
-use Rattle.sheets.specs.Positions.{someBelow, inRow, reachedAt, mixing}
+use Rattle.sheets.specs.inner.Positions.{someBelow, inRow, reachedAt, mixing}
 use Rattle.sheets.proofs.Tests.{and-left, and-right, and-both, surely}
 use Rattle.sheets.proofs.Search.{each-at, any-at, any-in, passing-at, passing-in}
 use Rattle.sheets.proofs.Positions.{same-tests, place-in, place-of, some-at, some-in, some-same}
@@ -119,10 +120,10 @@ module _ (R all : List ℕ) (n set : ℕ) (rows reach : List ℕ) (size : n ≡ 
       same-tests (not m) (unmixed R all) (λ t. surely (unmixed R all) (λ u. T-not m t (mixed-there u))) (λ u. not-T m (λ t. mixed-not t u))
 
 -- question 12 leaves at most 16 positions
-pub few-states : (R : List ℕ) (x : ℕ) → T (q12 lent R) → 1 ≤ x → x ≤ automata R → length (statesOf R x) ≤ 16
+pub few-states : (R : List ℕ) (x : ℕ) → T (q12 lent R) → 1 ≤ x → x ≤ automata R → length (statesOf R x) ≤ chainedMost
 unfolding q12 automatonFits lent fits
 few-states R x t lo hi =
-    leb→le (length (statesOf R x)) 16
-    (and-left (leb (length (statesOf R x)) 16)
+    leb→le (length (statesOf R x)) chainedMost
+    (and-left (leb (length (statesOf R x)) chainedMost)
     (allOf (statesOf R x) (λ q. transitionsFit R (variables R x) (statesOf R x) (transitionsOf R q)))
     (each-at (automata R) (automatonFits lent R) t x lo hi))

@@ -8,7 +8,7 @@ use borrow.Author.Tests.{le-leb}
 use lib.Bits.{bitOr, or-lt, or-add-and, and-le-l, and-le-r}
 use lib.Dec.{leb, ltb, ltb→lt, lt→ltb}
 use Rattle.sheets.specs.Words.{indicator, allOf, anyOf}
-use Rattle.sheets.specs.Positions.{someBelow}
+use Rattle.sheets.specs.inner.Positions.{someBelow}
 use Rattle.sheets.proofs.Tests.{and-left, and-right, and-both}
 use Rattle.sheets.proofs.Positions.{same-tests}
 

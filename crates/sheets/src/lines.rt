@@ -4,10 +4,10 @@ ghost use mathlib.Core.List.{_∷_, []};
 ghost use Prim.Native.Nat.{ℕ, _+_, _-_, _*_, _^_, _<_, _≤_};
 ghost use Rattle.sheets.specs.Questions.{ask, firstNo};
 ghost use lib.Dec.{T};
-ghost use Rattle.sheets.specs.Format.{operationPlace};
+ghost use Rattle.sheets.specs.Format.{operationPlace, variablesMost};
 ghost use Rattle.sheets.specs.Operations.{oneSignal, linesAbove};
 ghost use Rattle.sheets.specs.Rules as Rules;
-ghost use Rattle.sheets.specs.Lines as Lines;
+ghost use Rattle.sheets.specs.inner.Lines as Lines;
 use crate::format;
 use crate::rules;
 use crate::words;
@@ -72,7 +72,7 @@ fn unused(r: &[u16], j: u16, c: u16) -> bool
 
 // Words c + 1 to c + n of line j refer to lines above it.
 fn refers_above(r: &[u16], j: u16, c: u16, n: u16) -> bool
-    requires { ⌜ (c ≤ 1) × (n ≤ 4) ⌝ }
+    requires { ⌜ (c ≤ 1) × (n ≤ variablesMost) ⌝ }
     ensures { λ b. ⌜ b ≡ Rules.refersAbove Rules.lent (now (r .entry)) j c n ⌝ }
 {
     let mut i: u16 = 0;
@@ -98,7 +98,7 @@ fn signal_fits(r: &[u16], j: u16) -> bool
 
 // Question 15 of the words of an operation on n lines above.
 fn lines_fit(r: &[u16], j: u16, n: u16) -> bool
-    requires { ⌜ n ≤ 4 ⌝ }
+    requires { ⌜ n ≤ variablesMost ⌝ }
     ensures { λ b. ⌜ b ≡ Rules.operandsFit Rules.lent (now (r .entry)) j (linesAbove n) ⌝ }
 {
     refers_above(r, j, 0, n) && unused(r, j, 1 + n)

@@ -8,7 +8,7 @@ ghost use Rattle.sheets.specs.Format.{chainedMost};
 ghost use Rattle.sheets.specs.Words as Words;
 ghost use Rattle.sheets.specs.Rules as Rules;
 ghost use Rattle.sheets.specs.Positioned.{stateCount, stateOf, positioned};
-ghost use Rattle.sheets.specs.Tabled.{Tabled};
+ghost use Rattle.sheets.specs.inner.Tabled.{Tabled};
 use crate::automata;
 use crate::condition;
 use crate::format;

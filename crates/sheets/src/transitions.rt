@@ -4,11 +4,12 @@ ghost use mathlib.Core.Bool.{not, _&&_, _||_};
 ghost use Prim.Native.Nat.{ℕ, _<_, _≤_};
 ghost use lib.ListN.{getD};
 ghost use lib.Dec.{eqb};
+ghost use Rattle.sheets.specs.Format.{chainedMost};
 ghost use Rattle.sheets.specs.Words as Words;
 ghost use Rattle.sheets.specs.Records.{recordWord};
-ghost use Rattle.sheets.specs.Positions.{someBelow, standsAt};
-ghost use Rattle.sheets.specs.Gathered.{records, Along, Remaining, Never};
-ghost use Rattle.sheets.specs.Transitions.{LeavingTaken};
+ghost use Rattle.sheets.specs.inner.Positions.{someBelow, standsAt};
+ghost use Rattle.sheets.specs.inner.Gathered.{records, Along, Remaining, Never};
+ghost use Rattle.sheets.specs.inner.Transitions.{LeavingTaken};
 use crate::along;
 use crate::format;
 use crate::walker;
@@ -17,7 +18,7 @@ use crate::words::Step;
 
 // The set with position i in it. A set of positions is a word: bit i is set where position i is in it.
 pub fn with(set: u16, i: u16) -> u16
-    requires { ⌜ i < 16 ⌝ }
+    requires { ⌜ i < chainedMost ⌝ }
     ensures { λ s. ⌜ ((k : ℕ) → Words.bit s k ≡ (Words.bit set k || eqb k i)) ⌝ }
 {
     set | (1u16 << i)
@@ -25,14 +26,14 @@ pub fn with(set: u16, i: u16) -> u16
 
 // Whether a position is in the set.
 fn some(set: u16) -> bool
-    ensures { λ b. ⌜ b ≡ someBelow 16 (Words.bit set) ⌝ }
+    ensures { λ b. ⌜ b ≡ someBelow chainedMost (Words.bit set) ⌝ }
 {
     set != 0
 }
 
 // The positions, among n, at which t stands.
 fn positions(states: [u16; format::CHAINED], n: u16, t: u16) -> u16
-    requires { ⌜ n ≤ 16 ⌝ }
+    requires { ⌜ n ≤ chainedMost ⌝ }
     ensures { λ s. ⌜ ((k : ℕ) → Words.bit s k ≡ standsAt states n t k) ⌝ }
 {
     let mut out: u16 = 0;
@@ -64,7 +65,7 @@ fn with_mask(
     set: u16,
     mask: u16,
 ) -> [u16; format::CHAINED]
-    requires { ⌜ n ≤ 16 ⌝ }
+    requires { ⌜ n ≤ chainedMost ⌝ }
     ensures { λ m. ⌜ ((k w : ℕ) → k < n → Words.bit (getD m k 0) w ≡ (Words.bit (getD masks k 0) w || (Words.bit mask w && Words.bit set k))) ⌝ }
 {
     let mut k: u16 = 0;
@@ -92,7 +93,7 @@ pub struct Leaving {
     pub fits: bool,
 }
 
-// One transition more. Nothing is required of the accumulator of a walk, so more than 16 positions are passed over here.
+// One transition more. Nothing is required of the accumulator of a walk, so more positions than there may be are passed over here.
 fn with_leaving(a: Leaving, s: Step) -> Leaving
     ensures { λ r. ⌜ LeavingTaken a s r ⌝ }
 {

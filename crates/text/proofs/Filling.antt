@@ -8,7 +8,7 @@ use mathlib.Core.List.{List, [], _∷_, _++_, append-nil}
 use lib.ListN.{length, getD, set, drop, length-append, length-drop}
 use lib.Seq.{sets, drop-cons, set-append-seam, append-snoc}
 use Rattle.text.specs.Texts.{Read, words, fault, readingOf, reading, answerOf, leftOf}
-use Rattle.text.specs.Readers.{from, held, ended, withWords, startOf, Steps}
+use Rattle.text.specs.inner.Readers.{from, held, ended, withWords, startOf, Steps}
 use Rattle.text.specs.declared.read.Place.{Place}
 use Rattle.text.specs.declared.read.Kind.{Kind}
 use Rattle.text.specs.declared.read.Reading.the-variants.{Words, Fault}

@@ -5,7 +5,7 @@ use native.Mathlib.Omega.{arith}
 use mathlib.Core.Bool.{Bool, cond}
 use borrow.Author.Tests.{le-leb, lt-leb}
 use Rattle.text.specs.Texts.{number, reading, sortOf, withWord, next, commented}
-use Rattle.text.specs.Readers.{from, held, ended, withWords, Moves, Steps}
+use Rattle.text.specs.inner.Readers.{from, held, ended, withWords, Moves, Steps}
 use Rattle.text.specs.declared.read.Place.{Place}
 use Rattle.text.specs.declared.reader.Moved.{Moved}
 use Rattle.text.specs.declared.reader.Reader.{Reader}

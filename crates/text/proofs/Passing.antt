@@ -9,7 +9,7 @@ use lib.ListN.{length, getD, drop, length-append}
 use lib.Seq.{drop-cons, drop-length}
 use lib.Dec.{eqb}
 use Rattle.text.specs.Texts.{Read, words, fault, withWord, next, commented, uncommented, readingOf, reading, answerOf}
-use Rattle.text.specs.Readers.{from, held, ended, withWords, startOf, Steps, toldOf}
+use Rattle.text.specs.inner.Readers.{from, held, ended, withWords, startOf, Steps, toldOf}
 use Rattle.text.specs.declared.read.Place.{Place}
 use Rattle.text.specs.declared.read.Kind.{Kind}
 use Rattle.text.specs.declared.read.Reading.the-variants.{Words}

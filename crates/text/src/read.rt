@@ -6,7 +6,7 @@ ghost use lib.ListN.{length, drop};
 ghost use lib.Seq.{sets};
 ghost use Rattle.text.specs.Texts.{readingOf, answerOf, leftOf};
 ghost use Rattle.text.specs.Texts as Texts;
-ghost use Rattle.text.specs.Readers.{held, toldOf};
+ghost use Rattle.text.specs.inner.Readers.{held, toldOf};
 use crate::reader::Reader;
 use crate::reader::State;
 

@@ -3,7 +3,7 @@ ghost use mathlib.Core.Path.{_≡_};
 ghost use mathlib.Core.Bool.{cond};
 ghost use Prim.Native.Nat.{_^_, _≤_};
 ghost use Rattle.text.specs.Texts as Texts;
-ghost use Rattle.text.specs.Readers.{Moves, startOf, Steps};
+ghost use Rattle.text.specs.inner.Readers.{Moves, startOf, Steps};
 use crate::read::Kind;
 use crate::read::Place;
 

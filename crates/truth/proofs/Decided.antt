@@ -18,7 +18,7 @@ use Rattle.sheets.proofs.FormedLines.{Formed, formed, over-most}
 use Rattle.sheets.proofs.PositionedStates.{positioned-sound, positioned-named}
 use Rattle.sheets.specs.Format.{signalsMost}
 use Rattle.truth.specs.Truth.{Truths, SomePath, Means, TrueAt, Keeps}
-use Rattle.truth.specs.Product.{turned, good}
+use Rattle.truth.specs.inner.Product.{turned, good}
 use Rattle.truth.proofs.Valuations.{valued}
 use Rattle.truth.proofs.NamedPaths.{path-by-position}
 use Rattle.truth.proofs.DecidedPaths.{Finite, path-decided}

@@ -10,7 +10,7 @@ use Rattle.sheets.specs.Sound.{OneTo, MoveUnder, Sound}
 use Rattle.sheets.proofs.Tests.{dec-test}
 use Rattle.sheets.proofs.Search.{chosen}
 use Rattle.truth.specs.Truth.{Truths, Valuation, SomePath}
-use Rattle.truth.specs.Product.{good}
+use Rattle.truth.specs.inner.Product.{good}
 use Rattle.truth.proofs.Valuations.{valuation-same}
 use Rattle.truth.proofs.EndlessPaths.{Arena}
 use Rattle.truth.proofs.FairPairs.{fair, fair-sound, fair-complete}

@@ -13,7 +13,7 @@ use Rattle.sheets.specs.Positioned.{stateOf, positioned}
 use Rattle.sheets.proofs.PositionedStates.{Named, positioned-sound, positioned-named}
 use Rattle.truth.specs.Truth.{Truths, Valuation, SomePath}
 use Rattle.truth.specs.Lists.{AutomatonStep, Lasso}
-use Rattle.truth.specs.Product.{turned, good}
+use Rattle.truth.specs.inner.Product.{turned, good}
 
 -- B is A by position; what is good of A is good of B
 module _ {A B : Automaton} {n : ℕ} {name : ℕ → ℕ} (names : Named A B n name) (K : Kripke) (above : Truths) (arg : ℕ → ℕ) (good good′ : ℕ → Bool)

@@ -8,7 +8,7 @@ use lib.Dec.{T, not-T}
 use Rattle.sheets.specs.Words.{indicator, sum}
 use Rattle.sheets.proofs.Counting.{sum-mono, sum-strict, sum-most, indicator-mono, indicator-strict, indicator-most}
 use Rattle.truth.specs.Sizes.{positionsMost, membersMost, pairsMost}
-use Rattle.truth.specs.Pairs.{weigh, weight}
+use Rattle.truth.specs.inner.Pairs.{weigh, weight}
 
 weigh-less : (x g x′ g′ : Bool) → (T x′ → T x) → (T g′ → T g ⊎ (T x × T (not x′))) → weigh x′ g′ ≤ weigh x g
 unfolding weigh indicator

@@ -6,8 +6,7 @@ use lib.ListN.{length}
 use Rattle.sheets.specs.Questions.{Refusal, none, firstNo}
 use Rattle.sheets.specs.Rules.{lent}
 use Rattle.truth.specs.Truth.{TrueAt}
-use Rattle.truth.specs.Path.{asked, pathQuestions, ShowsPath, ShownPath}
-use Rattle.truth.specs.Trails.{placed}
+use Rattle.truth.specs.Path.{asked, pathQuestions, ShownPath}
 use Rattle.truth.specs.declared.path.Shown.{Shown}
 use Rattle.truth.specs.declared.path.Shown.the-variants.{Refused, NoPath, Path}
 
@@ -23,16 +22,6 @@ unfoldable pub lengthOf : Shown → ℕ
 lengthOf (Refused q i) = 0
 lengthOf NoPath = 0
 lengthOf (Path l b) = l
-
--- the path that was made for line j and node s, as two lists of numbers: none where the line is false
-unfoldable pub MadePath : List ℕ → List ℕ → ℕ → ℕ → ℕ → List ℕ → List ℕ → Shown → Type 0
-MadePath M R j s room nodes states (Refused q i) = 1 ≤ q
-MadePath M R j s room nodes states NoPath = TrueAt lent M R (asked R j) s → ⊥
-MadePath M R j s room nodes states (Path l b) = TrueAt lent M R (asked R j) s × ShowsPath M R j s (placed nodes) (placed states) l b × (l ≤ room)
-
-pub record MadeFor (M R : List ℕ) (j s room : ℕ) (nodes states : List ℕ) (answer : Shown) : Type 0 where
-  pub refusal : refusalOf answer ≡ firstNo (pathQuestions M R j s room)
-  pub made : MadePath M R j s room nodes states answer
 
 -- the values of each case: a path is shown exactly where the line is true; otherwise every lent word is as before
 unfoldable pub Leaves : List ℕ → List ℕ → ℕ → ℕ → List ℕ → List ℕ → List ℕ → List ℕ → Shown → Type 0

@@ -1,5 +1,5 @@
 // Where a machine breaks a rule: the first start node, by number, that is not in a row.
-ghost use Rattle.truth.specs.Rows.{rowHas};
+ghost use Rattle.truth.specs.inner.Rows.{rowHas};
 ghost use Rattle.truth.specs.Breaks.{FirstOutside};
 use crate::rows::Row;
 use sheets::machine;

@@ -9,7 +9,7 @@ ghost use Rattle.sheets.specs.Format.{nodesMost};
 ghost use Rattle.sheets.specs.Machine as Machine;
 ghost use Rattle.sheets.specs.Rules as Rules;
 ghost use Rattle.truth.specs.Sizes.{rowWords, membersMost};
-ghost use Rattle.truth.specs.Rows.{rowHas};
+ghost use Rattle.truth.specs.inner.Rows.{rowHas};
 ghost use Rattle.truth.specs.Labelling as Labelling;
 ghost use Rattle.truth.specs.LabelAnswers.{LabelAnswer};
 use crate::lines::row_of_line;

@@ -5,7 +5,7 @@ ghost use Prim.Native.Nat.{ℕ};
 ghost use lib.Dec.{eqb};
 ghost use Rattle.sheets.specs.Words.{within, each};
 ghost use Rattle.truth.specs.Sizes.{membersMost};
-ghost use Rattle.truth.specs.Rows.{rowHas, tally, First, Last};
+ghost use Rattle.truth.specs.inner.Rows.{rowHas, tally, First, Last};
 use crate::sizes::HIGH_FIRST;
 use crate::sizes::LOW_LAST;
 use crate::sizes::MEMBERS;

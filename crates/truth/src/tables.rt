@@ -3,7 +3,7 @@ ghost use mathlib.Core.Path.{_≡_};
 ghost use Prim.Native.Nat.{_-_, _*_, _<_, _≤_};
 ghost use lib.ListN.{length, getD, set};
 ghost use Rattle.truth.specs.Sizes.{rowWords, lowAt, highAt, tableRows};
-ghost use Rattle.truth.specs.Links.{Joined};
+ghost use Rattle.truth.specs.inner.Links.{Joined};
 use crate::rows::Row;
 use crate::sizes::ROW_WORDS;
 use crate::sizes::TABLE_WORDS;

@@ -18,7 +18,7 @@ use Rattle.sheets.proofs.Search.{le-or-gt, within-in}
 use Rattle.sheets.proofs.AcceptedMachine.{start-node, nodes-sized}
 use Rattle.sheets.proofs.AcceptedRule.{some-line}
 use Rattle.truth.specs.Truth.{Keeps, TrueAt}
-use Rattle.truth.specs.Rows.{held}
+use Rattle.truth.specs.inner.Rows.{held}
 use Rattle.truth.specs.Labelling.{labelQuestions, StartsIn, Rows, rowBit}
 use Rattle.truth.specs.LabelAnswers.{refusalOf, Leaves, LabelAnswer}
 use Rattle.truth.specs.declared.labelling.Labelled.{Labelled}

@@ -7,9 +7,9 @@ use mathlib.Core.List.{List}
 use mathlib.Core.Bool.{false, not}
 use Rattle.sheets.specs.Words.{each}
 use Rattle.truth.specs.Sizes.{positionsMost, membersMost, pairAt}
-use Rattle.truth.specs.Rows.{rowsHas}
-use Rattle.truth.specs.Pairs.{UpTo, NoRows, here, NoTime, Least}
-use Rattle.truth.specs.Growing.{Turn, Growing, Turns}
+use Rattle.truth.specs.inner.Rows.{rowsHas}
+use Rattle.truth.specs.inner.Pairs.{UpTo, NoRows, here, NoTime, Least}
+use Rattle.truth.specs.inner.Growing.{Turn, Growing, Turns}
 use Rattle.truth.proofs.rows.RowLaws.{one-passes}
 use Rattle.truth.proofs.growth.GrowthTurn.{turn-fewer, turn-grows}
 

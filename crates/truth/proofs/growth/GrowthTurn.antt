@@ -9,9 +9,9 @@ use mathlib.Core.Bool.{Bool, not, _&&_}
 use lib.Dec.{T, T-not, not-T, eqb, ltb, lt→ltb, eqb→eq, eqb-refl}
 use Rattle.sheets.proofs.Tests.{test, contrary, twice-not, and-left, and-right, and-both, or-left, or-right, or-cases}
 use Rattle.truth.specs.Sizes.{positionsMost, tableRows, cell}
-use Rattle.truth.specs.Rows.{rowsHas}
-use Rattle.truth.specs.Pairs.{PairStep, UpTo, Transposed, there, timeOf, Timed, Sooner}
-use Rattle.truth.specs.Growing.{enters, below, Turn, left, Growing}
+use Rattle.truth.specs.inner.Rows.{rowsHas}
+use Rattle.truth.specs.inner.Pairs.{PairStep, UpTo, Transposed, there, timeOf, Timed, Sooner}
+use Rattle.truth.specs.inner.Growing.{enters, below, Turn, left, Growing}
 use Rattle.truth.proofs.rows.RowLaws.{held-in}
 use Rattle.truth.proofs.structure.EdgesBack.{back-of, edge-of}
 use Rattle.truth.proofs.PairWeights.{weight-falls}

@@ -10,9 +10,9 @@ use lib.Dec.{T, T-not, not-T, eqb, eqb→eq}
 use Rattle.sheets.specs.Words.{each}
 use Rattle.sheets.proofs.Tests.{failed, and-left, and-right, and-both, eqb-same, eqb-other}
 use Rattle.truth.specs.Sizes.{membersMost}
-use Rattle.truth.specs.Rows.{held, rowsHas}
-use Rattle.truth.specs.Pairs.{timeOf, Timed}
-use Rattle.truth.specs.Growing.{TimePut, Spread}
+use Rattle.truth.specs.inner.Rows.{held, rowsHas}
+use Rattle.truth.specs.inner.Pairs.{timeOf, Timed}
+use Rattle.truth.specs.inner.Growing.{TimePut, Spread}
 use Rattle.truth.proofs.rows.RowLaws.{held-in, none-passes}
 
 -- the nodes x of E that were not met

@@ -8,8 +8,8 @@ use mathlib.Core.Bool.{Bool, not}
 use lib.ListN.{length, set, length-set}
 use lib.Dec.{T, T-not}
 use Rattle.truth.specs.Sizes.{membersMost, pairAt}
-use Rattle.truth.specs.Pairs.{timeOf}
-use Rattle.truth.specs.Growing.{TimePut}
+use Rattle.truth.specs.inner.Pairs.{timeOf}
+use Rattle.truth.specs.inner.Growing.{TimePut}
 use Rattle.truth.proofs.tables.TableLaws.{time-here, time-other}
 use Rattle.truth.proofs.rows.RowWalks.{Less, less-in, less-or}
 

@@ -9,9 +9,9 @@ use mathlib.Core.Bool.{Bool, true, false, not, _&&_, _||_, and-true, or-false, o
 use lib.Dec.{T, not-T, eqb, ltb, lt→ltb, ltb→lt}
 use Rattle.sheets.proofs.Tests.{test, passed, failed, and-left, and-right, and-both, or-left, or-right, eqb-same, eqb-other}
 use Rattle.sheets.proofs.Positions.{same-tests}
-use Rattle.truth.specs.Rows.{rowsHas}
-use Rattle.truth.specs.Pairs.{timeOf, Timed}
-use Rattle.truth.specs.Growing.{Spread, enters, below, Turn}
+use Rattle.truth.specs.inner.Rows.{rowsHas}
+use Rattle.truth.specs.inner.Pairs.{timeOf, Timed}
+use Rattle.truth.specs.inner.Growing.{Spread, enters, below, Turn}
 use Rattle.truth.proofs.rows.RowWalks.{Less, and-not}
 
 -- ---- additions after each other

@@ -15,7 +15,7 @@ use Rattle.sheets.specs.Sheets.{sheetOf}
 use Rattle.sheets.proofs.AcceptedMachine.{nodes-sized}
 use Rattle.sheets.proofs.AcceptedRule.{some-line}
 use Rattle.truth.specs.Sizes.{membersMost, lowAt, highAt, rowWordBits}
-use Rattle.truth.specs.Rows.{held, tally}
+use Rattle.truth.specs.inner.Rows.{held, tally}
 use Rattle.truth.specs.Labelling.{labelQuestions, Rows, rowOnes, StartsIn, percent}
 use Rattle.truth.specs.LabelAnswers.{refusalOf, Leaves, LabelAnswer}
 use Rattle.truth.specs.declared.labelling.Labelled.the-variants.{Refused, Done}

@@ -21,7 +21,7 @@ use Rattle.sheets.proofs.BitLaws.{sum-same}
 use Rattle.sheets.specs.Format.{nodesMost}
 use Rattle.truth.specs.Sizes.{membersMost, rowWordBits}
 use Rattle.truth.specs.Truth.{TrueAt}
-use Rattle.truth.specs.Rows.{held}
+use Rattle.truth.specs.inner.Rows.{held}
 use Rattle.truth.specs.Labelling.{rowBit, rowOnes, Rows, HowMany, none, one-more, no-more}
 use Rattle.truth.specs.LabelAnswers.{refusalOf, Leaves, LabelAnswer}
 use Rattle.truth.specs.declared.labelling.Labelled.the-variants.{Done}

@@ -17,9 +17,9 @@ use Rattle.sheets.proofs.Search.{le-or-gt}
 use Rattle.sheets.specs.Format.{nodesMost}
 use Rattle.truth.specs.Sizes.{membersMost}
 use Rattle.truth.specs.Truth.{Means, TrueAt}
-use Rattle.truth.specs.Rows.{held}
+use Rattle.truth.specs.inner.Rows.{held}
 use Rattle.truth.specs.Labelling.{rowBit, RowsTo}
-use Rattle.truth.specs.OneLine.{LineRow}
+use Rattle.truth.specs.inner.OneLine.{LineRow}
 use Rattle.truth.proofs.Bisimulation.{Bisimulation, equal-nodes, line-agrees}
 use Rattle.truth.proofs.Recursion.{truth-recursion}
 use Rattle.truth.proofs.tables.TableLaws.{stored-word, stored-here, stored-other, stored-length}

@@ -8,7 +8,7 @@ use lib.Dec.{T}
 use Rattle.sheets.specs.Format.{variablesMost}
 use Rattle.sheets.specs.Structures as Structures
 use Rattle.sheets.specs.Rules.{lent, lines, lineWord, lineOf, line, lineFits, automata, automaton, ruleRefusal}
-use Rattle.sheets.specs.Lines.{pathLine, decodedAs, decoded}
+use Rattle.sheets.specs.inner.Lines.{pathLine, decodedAs, decoded}
 use Rattle.sheets.specs.declared.lines.Line.{Line}
 use Rattle.sheets.specs.declared.lines.Line.the-variants.{Signal, Negation, Either, SomePath, SomePathNot}
 use Rattle.sheets.specs.declared.lines.Decoded.{Decoded}
@@ -17,7 +17,7 @@ use Rattle.sheets.proofs.AcceptedRule.{line-fits}
 use Rattle.sheets.proofs.DecodedLines.{malformed-fails}
 use Rattle.sheets.proofs.FormedLines as FormedLines
 use Rattle.sheets.specs.Format.{signalsMost}
-use Rattle.truth.specs.Product.{argument, argumentOf}
+use Rattle.truth.specs.inner.Product.{argument, argumentOf}
 
 -- the lines that a path line's words name
 pub carried : (x : ℕ) (arg : ℕ → ℕ) (i : ℕ) → i < variablesMost → argumentOf (pathLine x arg) i ≡ arg i

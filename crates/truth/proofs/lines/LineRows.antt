@@ -11,7 +11,7 @@ use Rattle.sheets.specs.Format.{variablesMost}
 use Rattle.sheets.specs.Words.{within}
 use Rattle.sheets.specs.Machine.{nodes, kripke, signalAt}
 use Rattle.sheets.specs.Rules.{lent, automata, automaton}
-use Rattle.sheets.specs.Lines.{decoded}
+use Rattle.sheets.specs.inner.Lines.{decoded}
 use Rattle.sheets.specs.declared.lines.PathLine.{PathLine}
 use Rattle.sheets.specs.declared.lines.Line.{Line}
 use Rattle.sheets.specs.declared.lines.Line.the-variants.{Signal, Negation, Either, SomePath, SomePathNot}
@@ -23,11 +23,11 @@ use Rattle.sheets.proofs.FormedLines as FormedLines
 use Rattle.sheets.proofs.PositionedStates.{positioned-named, few-valued}
 use Rattle.sheets.specs.Format.{signalsMost}
 use Rattle.truth.specs.Sizes.{rowWords, membersMost}
-use Rattle.truth.specs.Rows.{rowsHas}
+use Rattle.truth.specs.inner.Rows.{rowsHas}
 use Rattle.truth.specs.Truth.{SomePath as PathFrom, Means}
 use Rattle.truth.specs.Labelling.{rowTruths}
-use Rattle.truth.specs.Product.{argument, argumentOf, turned, good}
-use Rattle.truth.specs.OneLine.{LineReady, LineRow, PathReady, PathRow}
+use Rattle.truth.specs.inner.Product.{argument, argumentOf, turned, good}
+use Rattle.truth.specs.inner.OneLine.{LineReady, LineRow, PathReady, PathRow}
 use Rattle.truth.proofs.NamedPaths.{path-by-position, path-arguments}
 use Rattle.truth.proofs.tables.RowBits.{row-bit}
 use Rattle.truth.proofs.lines.DecodedKinds.{meant, line-meant, line-carries, none-malformed, refers}

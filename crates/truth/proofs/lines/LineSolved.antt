@@ -18,12 +18,12 @@ use Rattle.sheets.proofs.AcceptedMachine.{nodes-sized, edge-stays}
 use Rattle.truth.specs.Sizes.{membersMost, cell}
 use Rattle.truth.specs.Truth.{Valuation, SomePath}
 use Rattle.truth.specs.Labelling.{rowBit, rowTruths}
-use Rattle.truth.specs.Rows.{rowsHas}
-use Rattle.truth.specs.Pairs.{edgeIn, PairStep, Least, Greatest}
-use Rattle.truth.specs.Trails.{Looped}
+use Rattle.truth.specs.inner.Rows.{rowsHas}
+use Rattle.truth.specs.inner.Pairs.{edgeIn, PairStep, Least, Greatest}
+use Rattle.truth.specs.inner.Trails.{Looped}
 use Rattle.truth.specs.Lists.{AutomatonStep, Lasso}
-use Rattle.truth.specs.Product.{argumentAt, good, Allowed, GoodRows}
-use Rattle.truth.specs.OneLine.{Successors, nodeSet}
+use Rattle.truth.specs.inner.Product.{argumentAt, good, Allowed, GoodRows}
+use Rattle.truth.specs.inner.OneLine.{Successors, nodeSet}
 use Rattle.truth.proofs.tables.RowBits.{row-bit}
 use Rattle.truth.proofs.product.ValuationRows.{agrees-in}
 use Rattle.truth.proofs.Valuations.{valued}

@@ -12,15 +12,15 @@ use Rattle.sheets.specs.Machine.{nodes}
 use Rattle.sheets.specs.Rules.{lent}
 use Rattle.sheets.specs.Sound.{Sound}
 use Rattle.sheets.specs.Positioned.{stateCount, stateOf, positioned}
-use Rattle.sheets.specs.Tabled.{Tabled}
+use Rattle.sheets.specs.inner.Tabled.{Tabled}
 use Rattle.sheets.specs.declared.position.ByPosition.{ByPosition}
 use Rattle.sheets.proofs.Tests.{and-left, failed}
 use Rattle.sheets.proofs.PositionedStates.{positioned-sound, positioned-first, few-positions, few-valued}
 use Rattle.truth.specs.Sizes.{positionsMost, membersMost, tableRows}
-use Rattle.truth.specs.Rows.{held, rowsHas}
-use Rattle.truth.specs.Pairs.{UpTo, Transposed, Least, Greatest}
-use Rattle.truth.specs.Product.{good, Allowed, GoodRows}
-use Rattle.truth.specs.OneLine.{Solvable, PathReady, PathRow, nodeSet, SolvedLine}
+use Rattle.truth.specs.inner.Rows.{held, rowsHas}
+use Rattle.truth.specs.inner.Pairs.{UpTo, Transposed, Least, Greatest}
+use Rattle.truth.specs.inner.Product.{good, Allowed, GoodRows}
+use Rattle.truth.specs.inner.OneLine.{Solvable, PathReady, PathRow, nodeSet, SolvedLine}
 use Rattle.truth.proofs.structure.EdgesBack.{reaches-up}
 use Rattle.truth.proofs.lines.LineSolved.{line-solved}
 

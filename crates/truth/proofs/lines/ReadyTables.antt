@@ -10,8 +10,8 @@ use Rattle.sheets.specs.Machine.{nodes, kripke, machineRefusal}
 use Rattle.sheets.specs.Rules.{lent, ruleRefusal}
 use Rattle.sheets.proofs.AcceptedMachine.{nodes-sized}
 use Rattle.truth.specs.Sizes.{membersMost, tableRows}
-use Rattle.truth.specs.Rows.{rowsHas}
-use Rattle.truth.specs.OneLine.{Ready}
+use Rattle.truth.specs.inner.Rows.{rowsHas}
+use Rattle.truth.specs.inner.OneLine.{Ready}
 
 pub ready : (M R next back : List ℕ) (n : ℕ) → n ≡ nodes M → machineRefusal M ≡ 0 → ruleRefusal lent R ≡ 0
     → ((s u : ℕ) → 1 ≤ s → s ≤ nodes M → s ≤ tableRows → rowsHas next (s - 1) u ≡ (within 1 membersMost u && kripke M .edge s u))

@@ -6,10 +6,12 @@ use native.Mathlib.Omega.{arith}
 use mathlib.Core.List.{List, [], _∷_, _++_, map}
 use lib.ListN.{length, take, drop, getD, length-map, length-drop}
 use lib.Seq.{getD-drop, ext-getD}
+use Rattle.truth.specs.Sizes.{pairsMost}
 use Rattle.sheets.specs.Words.{word}
 use Rattle.sheets.specs.Questions.{firstNo}
 use Rattle.truth.specs.Path.{pathQuestions}
-use Rattle.truth.specs.PathAnswers.{refusalOf, lengthOf, MadeFor, Leaves}
+use Rattle.truth.specs.PathAnswers.{refusalOf, lengthOf, Leaves}
+use Rattle.truth.specs.inner.Made.{MadeFor}
 use Rattle.truth.specs.PathPairs.{pairNodes, pairStates, PairsAnswer}
 use Rattle.truth.specs.declared.pairs.Pair.{Pair}
 use Rattle.truth.specs.declared.path.Shown.{Shown}
@@ -17,12 +19,12 @@ use Rattle.truth.specs.declared.path.Shown.the-variants.{Refused, NoPath
 use Rattle.truth.proofs.path.ShownPaths.{count-most, answered}
 
 module _ (M R : List ℕ) (j s : ℕ) (before : List Pair) (nodes states : List ℕ) (count : ℕ) (answer : Shown)
-    (made : MadeFor M R j s (min (length before) 2048) nodes states answer) (counted : count ≡ lengthOf answer)
-    (long-nodes : length nodes ≡ 2048) (long-states : length states ≡ 2048) where
+    (made : MadeFor M R j s (min (length before) pairsMost) nodes states answer) (counted : count ≡ lengthOf answer)
+    (long-nodes : length nodes ≡ pairsMost) (long-states : length states ≡ pairsMost) where
   -- no more pairs than the list and what was made have
   pub count-fits : (count ≤ length before) × ((count ≤ length nodes) × (count ≤ length states))
   count-fits =
-      let few = count-most M R j s (min (length before) 2048) nodes states count answer made counted in
+      let few = count-most M R j s (min (length before) pairsMost) nodes states count answer made counted in
       (omega (arith, few), (omega (arith, few, long-nodes), omega (arith, few, long-states)))
 
   pub pairs-answered : (after : List Pair) → pairNodes after ≡ take count nodes ++ drop count (pairNodes before)
@@ -30,7 +32,7 @@ module _ (M R : List ℕ) (j s : ℕ) (before : List Pair) (nodes states : List 
   pairs-answered after en es =
       let ln : length (pairNodes before) ≡ length before = length-map before (λ (p : Pair). p .node) in
       let ls : length (pairStates before) ≡ length before = length-map before (λ (p : Pair). p .state) in
-      answered M R j s (min (length before) 2048) nodes states (pairNodes before) (pairStates before) (pairNodes after) (pairStates after)
+      answered M R j s (min (length before) pairsMost) nodes states (pairNodes before) (pairStates before) (pairNodes after) (pairStates after)
       (omega (arith, ln, ls)) (omega (arith, long-nodes)) (omega (arith, long-states)) count answer made counted en es
 
 -- ---- the answer says every pair

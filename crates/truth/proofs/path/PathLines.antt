@@ -19,9 +19,9 @@ use Rattle.sheets.specs.Format.{signalsMost}
 use Rattle.truth.specs.Truth.{Truths, SomePath, Means, TrueAt}
 use Rattle.truth.specs.Labelling.{rowBit, rowTruths, RowsTo}
 use Rattle.truth.specs.Lists.{Lasso}
-use Rattle.truth.specs.Product.{argument, turned, good}
+use Rattle.truth.specs.inner.Product.{argument, turned, good}
 use Rattle.truth.specs.Path.{Shows}
-use Rattle.truth.specs.OneLine.{Holds}
+use Rattle.truth.specs.inner.OneLine.{Holds}
 use Rattle.truth.proofs.NamedPaths.{path-by-position, path-arguments}
 use Rattle.truth.proofs.labelling.LineTruths.{line-true}
 use Rattle.truth.proofs.path.SameLists.{lasso-truths}

@@ -8,12 +8,12 @@ use mathlib.Core.List.{List}
 use mathlib.Core.Bool.{Bool, _&&_}
 use lib.ListN.{length}
 use lib.Dec.{T, leb, leb→le, eqb}
-use Rattle.sheets.specs.Format.{variablesMost}
+use Rattle.sheets.specs.Format.{variablesMost, linesMost}
 use Rattle.sheets.specs.Words.{within, indicator}
 use Rattle.sheets.specs.Questions.{none as noRefusal, firstNo}
 use Rattle.sheets.specs.Machine.{nodes, machineRefusal}
 use Rattle.sheets.specs.Rules.{lent, fits, lines, lineWord, automata, automaton, q7, ruleRefusal}
-use Rattle.sheets.specs.Lines.{pathLine}
+use Rattle.sheets.specs.inner.Lines.{pathLine}
 use Rattle.sheets.specs.declared.lines.PathLine.{PathLine}
 use Rattle.sheets.specs.Positioned.{stateCount}
 use Rattle.sheets.specs.Sheets.{sheetOf}
@@ -25,12 +25,13 @@ use Rattle.sheets.proofs.PositionedStates.{positioned-named, few-valued}
 use Rattle.truth.specs.Sizes.{rowWords, linesWords}
 use Rattle.truth.specs.Truth.{TrueAt}
 use Rattle.truth.specs.Labelling.{RowsTo}
-use Rattle.truth.specs.Product.{argument, argumentOf}
-use Rattle.truth.specs.OneLine.{Ready, PathReady, Holds}
-use Rattle.truth.specs.Trails.{placed}
+use Rattle.truth.specs.inner.Product.{argument, argumentOf}
+use Rattle.truth.specs.inner.OneLine.{Ready, PathReady, Holds}
+use Rattle.truth.specs.inner.Trails.{placed}
 use Rattle.truth.specs.Path.{asked, q18, q19, pathQuestions}
-use Rattle.truth.specs.PathAnswers.{refusalOf, MadePath, MadeFor}
-use Rattle.truth.specs.Shows.{ShowsLine}
+use Rattle.truth.specs.PathAnswers.{refusalOf}
+use Rattle.truth.specs.inner.Made.{MadePath, MadeFor}
+use Rattle.truth.specs.inner.Shows.{ShowsLine}
 use Rattle.truth.specs.declared.path.Shown.{Shown}
 use Rattle.truth.specs.declared.path.Shown.the-variants.{Refused, NoPath, Path}
 use Rattle.truth.proofs.lines.DecodedKinds.{carried}
@@ -41,8 +42,8 @@ use Rattle.truth.proofs.path.PathLines.{auto, operation, operated, path
 pub rows-fit : (R : List ℕ) → ruleRefusal lent R ≡ 0 → rowWords * lines R ≤ linesWords
 unfolding q7 lent fits
 rows-fit R rules =
-    let t : T (leb (lines R) 1024) = search (and-right, rule-answers lent R rules .seven) in
-    omega (arith, leb→le (lines R) 1024 t)
+    let t : T (leb (lines R) linesMost) = search (and-right, rule-answers lent R rules .seven) in
+    omega (arith, leb→le (lines R) linesMost t)
 
 -- q is the number of the first "no"
 module _ (M R : List ℕ) (j s room q : ℕ) (e : q ≡ firstNo (pathQuestions M R j s room) .number) where

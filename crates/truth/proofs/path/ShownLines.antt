@@ -17,14 +17,14 @@ use Rattle.sheets.specs.Positioned.{stateCount, stateOf, positioned}
 use Rattle.sheets.proofs.AcceptedMachine.{nodes-sized}
 use Rattle.sheets.proofs.PositionedStates.{positioned-first, positioned-named}
 use Rattle.truth.specs.Sizes.{positionsMost, pairsMost}
-use Rattle.truth.specs.Rows.{held}
+use Rattle.truth.specs.inner.Rows.{held}
 use Rattle.truth.specs.Labelling.{rowTruths}
-use Rattle.truth.specs.Product.{good}
-use Rattle.truth.specs.Pairs.{Timed}
+use Rattle.truth.specs.inner.Product.{good}
+use Rattle.truth.specs.inner.Pairs.{Timed}
 use Rattle.truth.specs.Lists.{Lasso}
-use Rattle.truth.specs.OneLine.{PathReady, Holds, SolvedLine}
-use Rattle.truth.specs.Trails.{Looped, Traceable, placed}
-use Rattle.truth.specs.Shows.{ShowsLine}
+use Rattle.truth.specs.inner.OneLine.{PathReady, Holds, SolvedLine}
+use Rattle.truth.specs.inner.Trails.{Looped, Traceable, placed}
+use Rattle.truth.specs.inner.Shows.{ShowsLine}
 use Rattle.truth.specs.declared.path.Shown.the-variants.{NoPath, Path}
 use Rattle.truth.proofs.NamedPaths.{good-named, lasso-named}
 use Rattle.truth.proofs.lines.PathRows.{path-sound, states-few, allow-up, lasting-up, some-state, path-row-of}

@@ -12,9 +12,10 @@ use Rattle.sheets.specs.Machine.{kripke}
 use Rattle.sheets.specs.Rules.{lent, automaton, line}
 use Rattle.truth.specs.Sizes.{pairsMost}
 use Rattle.truth.specs.Truth.{Truths, TrueAt}
-use Rattle.truth.specs.Trails.{placed}
+use Rattle.truth.specs.inner.Trails.{placed}
 use Rattle.truth.specs.Path.{asked, Shows, ShowsPath, ShownPath}
-use Rattle.truth.specs.PathAnswers.{lengthOf, MadePath, MadeFor, Leaves, PathAnswer}
+use Rattle.truth.specs.PathAnswers.{lengthOf, Leaves, PathAnswer}
+use Rattle.truth.specs.inner.Made.{MadePath, MadeFor}
 use Rattle.truth.specs.declared.path.Shown.{Shown}
 use Rattle.truth.specs.declared.path.Shown.the-variants.{Refused, NoPath, Path}
 use Rattle.truth.proofs.path.PathTable.{room-most}

@@ -8,17 +8,17 @@ use mathlib.Core.Bool.{Bool, true, not, _&&_}
 use lib.ListN.{length, getD, set}
 use lib.Dec.{T, T-not, eqb, eqb→eq, eqb-refl}
 use Rattle.sheets.specs.Words.{bit, each}
-use Rattle.sheets.specs.Positions.{someBelow}
+use Rattle.sheets.specs.inner.Positions.{someBelow}
 use Rattle.sheets.specs.Structures.{Automaton}
 use Rattle.sheets.proofs.Tests.{and-left, and-right, and-both, test}
 use Rattle.sheets.proofs.Search.{le-or-gt}
 use Rattle.sheets.proofs.Bits.{no-bit}
 use Rattle.sheets.proofs.Positions.{same-tests, below-split, some-at, some-in}
 use Rattle.truth.specs.Sizes.{membersMost, positionsMost, tableWords, lowAt, highAt, cell}
-use Rattle.truth.specs.Rows.{held, rowsHas}
-use Rattle.truth.specs.Pairs.{NoRow}
-use Rattle.truth.specs.Links.{Joined}
-use Rattle.truth.specs.Product.{agrees, argumentAt, Allowed, Drawn, MaskSet}
+use Rattle.truth.specs.inner.Rows.{held, rowsHas}
+use Rattle.truth.specs.inner.Pairs.{NoRow}
+use Rattle.truth.specs.inner.Links.{Joined}
+use Rattle.truth.specs.inner.Product.{agrees, argumentAt, Allowed, Drawn, MaskSet}
 use Rattle.truth.proofs.rows.RowLaws.{held-in, none-passes}
 use Rattle.truth.proofs.tables.TableLaws.{stored-here, stored-other, stored-length}
 use Rattle.truth.proofs.tables.LinkedSets.{linked-more}

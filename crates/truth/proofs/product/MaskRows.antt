@@ -11,9 +11,9 @@ use Rattle.sheets.specs.Words.{bit}
 use Rattle.sheets.proofs.Search.{le-or-gt}
 use Rattle.sheets.proofs.BitLaws.{bit-none, bit-above}
 use Rattle.truth.specs.Sizes.{valuationsMost}
-use Rattle.truth.specs.Rows.{held}
-use Rattle.truth.specs.Pairs.{Before}
-use Rattle.truth.specs.Product.{Drawn}
+use Rattle.truth.specs.inner.Rows.{held}
+use Rattle.truth.specs.inner.Pairs.{Before}
+use Rattle.truth.specs.inner.Product.{Drawn}
 use Rattle.truth.proofs.rows.RowLaws.{held-in, held-low, held-high}
 
 module _ (mask : ℕ) (word : mask < 2 ^ wordBits) where

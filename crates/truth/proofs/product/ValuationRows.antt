@@ -10,14 +10,14 @@ use lib.Pow.{pow-mono}
 use lib.Dec.{T}
 use Rattle.sheets.specs.Format.{variablesMost, wordBits}
 use Rattle.sheets.specs.Words.{bit}
-use Rattle.sheets.specs.Positions.{someBelow}
+use Rattle.sheets.specs.inner.Positions.{someBelow}
 use Rattle.sheets.proofs.Tests.{and-left, and-right, and-both}
 use Rattle.sheets.proofs.Search.{le-or-gt}
 use Rattle.sheets.proofs.Bits.{bits-same}
 use Rattle.sheets.proofs.BitLaws.{one-shifted}
 use Rattle.sheets.proofs.Positions.{same-tests, some-at, some-in}
 use Rattle.truth.specs.Sizes.{valuationsMost}
-use Rattle.truth.specs.Product.{same, agrees}
+use Rattle.truth.specs.inner.Product.{same, agrees}
 
 -- the numbers of valuations of v variables: `1 << v` of them
 pub valuations : (v : ℕ) → v ≤ variablesMost → ((1 * 2 ^ v) % 2 ^ wordBits ≡ 2 ^ v) × (2 ^ v ≤ valuationsMost)

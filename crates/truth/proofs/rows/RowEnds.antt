@@ -12,7 +12,7 @@ use Rattle.sheets.proofs.Search.{le-or-gt}
 use Rattle.sheets.proofs.Bits.{odd-or-even, bit-zero, bit-suc, no-bit}
 use Rattle.sheets.proofs.BitLaws.{bit-above}
 use Rattle.truth.specs.Sizes.{membersMost}
-use Rattle.truth.specs.Rows.{held, Foremost, First, Last}
+use Rattle.truth.specs.inner.Rows.{held, Foremost, First, Last}
 use Rattle.truth.proofs.rows.RowLaws.{held-in, held-low, held-high, held-lower, held-upper, held-none}
 
 -- ---- of a word

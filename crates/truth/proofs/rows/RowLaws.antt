@@ -18,7 +18,7 @@ use Rattle.sheets.proofs.Positions.{same-tests}
 use Rattle.sheets.proofs.Bits.{bits-same, no-bit}
 use Rattle.sheets.proofs.BitLaws.{sum-same, ones-number, bit-or, bit-and, bit-not, bit-none, bit-power, one-shifted}
 use Rattle.truth.specs.Sizes.{membersMost}
-use Rattle.truth.specs.Rows.{pick, held, tally}
+use Rattle.truth.specs.inner.Rows.{pick, held, tally}
 
 -- ---- the numbers from 1 to 128
 

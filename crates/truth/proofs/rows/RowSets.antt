@@ -7,7 +7,7 @@ use lib.Dec.{T, eqb, eqb→eq}
 use Rattle.sheets.specs.Words.{within}
 use Rattle.sheets.proofs.Tests.{test, failed}
 use Rattle.truth.specs.Sizes.{membersMost}
-use Rattle.truth.specs.Rows.{held}
+use Rattle.truth.specs.inner.Rows.{held}
 use Rattle.truth.proofs.rows.RowLaws.{in-row, held-in}
 
 -- ---- taking nodes out

@@ -13,8 +13,8 @@ use Rattle.sheets.proofs.Tests.{and-left, and-right, and-both, or-left, or-righ
 use Rattle.sheets.proofs.Search.{within-in}
 use Rattle.sheets.proofs.Counting.{number, number-strict}
 use Rattle.truth.specs.Sizes.{membersMost}
-use Rattle.truth.specs.Rows.{held, rowsHas, Foremost}
-use Rattle.truth.specs.Pairs.{Before}
+use Rattle.truth.specs.inner.Rows.{held, rowsHas, Foremost}
+use Rattle.truth.specs.inner.Pairs.{Before}
 use Rattle.truth.proofs.rows.RowLaws.{held-in}
 
 -- ---- a node found

@@ -13,8 +13,8 @@ use Rattle.sheets.specs.Words.{within}
 use Rattle.sheets.proofs.Tests.{passed, failed, eqb-same, eqb-other}
 use Rattle.sheets.proofs.Search.{le-or-gt}
 use Rattle.truth.specs.Sizes.{membersMost, tableWords}
-use Rattle.truth.specs.Rows.{rowsHas}
-use Rattle.truth.specs.Links.{Joined, AddedBefore}
+use Rattle.truth.specs.inner.Rows.{rowsHas}
+use Rattle.truth.specs.inner.Links.{Joined, AddedBefore}
 use Rattle.truth.proofs.rows.RowLaws.{not-in-row}
 use Rattle.truth.proofs.rows.RowWalks.{Less, less-in, and-not}
 use Rattle.truth.proofs.tables.TableLaws.{zero-row}

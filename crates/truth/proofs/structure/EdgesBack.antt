@@ -8,8 +8,8 @@ use Rattle.sheets.specs.Words.{within}
 use Rattle.sheets.proofs.Tests.{and-right, and-both}
 use Rattle.sheets.proofs.Search.{within-in}
 use Rattle.truth.specs.Sizes.{positionsMost, membersMost, tableRows, cell}
-use Rattle.truth.specs.Rows.{rowsHas}
-use Rattle.truth.specs.Pairs.{edgeIn, UpTo, Transposed, Reaches, here, there}
+use Rattle.truth.specs.inner.Rows.{rowsHas}
+use Rattle.truth.specs.inner.Pairs.{edgeIn, UpTo, Transposed, Reaches, here, there}
 
 module _ (n : ℕ) (next back : List ℕ) (tr : Transposed n next back) (s u : ℕ) (lo : 1 ≤ u) (hi : u ≤ n) where
   pub back-of : 1 ≤ s → s ≤ membersMost → s ≤ n → T (edgeIn next s u) → T (rowsHas back (u - 1) s)

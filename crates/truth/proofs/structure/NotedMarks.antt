@@ -11,7 +11,7 @@ use Rattle.sheets.specs.Machine.{edgesOf, target, kripke}
 use Rattle.sheets.proofs.Tests.{and-left, and-right, and-both, or-left, or-right, or-cases, test, contrary, both-passed, both-failed}
 use Rattle.sheets.proofs.Search.{within-in, any-at, any-in}
 use Rattle.truth.specs.Sizes.{membersMost}
-use Rattle.truth.specs.Rows.{rowHas, leadsInto, marksInto}
+use Rattle.truth.specs.inner.Rows.{rowHas, leadsInto, marksInto}
 use Rattle.truth.specs.declared.rows.Row.{Row}
 use Rattle.truth.proofs.rows.RowLaws.{held-in}
 use Rattle.truth.proofs.rows.RowWalks.{Less, less-in, less-or}

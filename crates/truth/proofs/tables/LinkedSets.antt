@@ -13,10 +13,10 @@ use Rattle.sheets.specs.Words.{within}
 use Rattle.sheets.proofs.Tests.{and-right, and-both, or-left, or-right, or-cases}
 use Rattle.sheets.proofs.Search.{within-in}
 use Rattle.truth.specs.Sizes.{positionsMost, membersMost, setWords}
-use Rattle.truth.specs.Rows.{held, rowsHas}
-use Rattle.truth.specs.Pairs.{NoRow}
-use Rattle.truth.specs.Links.{Joined, Linked, Among}
-use Rattle.truth.specs.Trimmed.{SomeBelow}
+use Rattle.truth.specs.inner.Rows.{held, rowsHas}
+use Rattle.truth.specs.inner.Pairs.{NoRow}
+use Rattle.truth.specs.inner.Links.{Joined, Linked, Among}
+use Rattle.truth.specs.inner.Trimmed.{SomeBelow}
 use Rattle.truth.proofs.rows.RowLaws.{held-in}
 use Rattle.truth.proofs.tables.TableLaws.{stored-length, stored-more}
 

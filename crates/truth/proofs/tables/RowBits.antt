@@ -10,7 +10,7 @@ use Rattle.sheets.specs.Words.{word}
 use Rattle.sheets.proofs.Search.{le-or-gt}
 use Rattle.truth.specs.Sizes.{rowWordBits, membersMost, lowAt, highAt}
 use Rattle.truth.specs.Labelling.{rowBit}
-use Rattle.truth.specs.Rows.{rowsHas}
+use Rattle.truth.specs.inner.Rows.{rowsHas}
 use Rattle.truth.proofs.rows.RowLaws.{held-low, held-high}
 
 pub row-bit : (rows : List ℕ) (j s : ℕ) → 1 ≤ s → s ≤ membersMost → rowBit rows j s ≡ rowsHas rows (j - 1) s

@@ -12,8 +12,8 @@ use lib.Seq.{getD-set-same, getD-set-other}
 use lib.Dec.{eqb}
 use Rattle.sheets.proofs.Tests.{eqb-same, eqb-other}
 use Rattle.truth.specs.Sizes.{membersMost, pairAt}
-use Rattle.truth.specs.Rows.{held, rowHas, rowsHas}
-use Rattle.truth.specs.Pairs.{NoRow, Cleared, timeOf}
+use Rattle.truth.specs.inner.Rows.{held, rowHas, rowsHas}
+use Rattle.truth.specs.inner.Pairs.{NoRow, Cleared, timeOf}
 use Rattle.truth.specs.declared.rows.Row.{Row}
 use Rattle.truth.proofs.rows.RowLaws.{held-none}
 

@@ -9,8 +9,8 @@ use borrow.Author.Count.{below-more}
 use lib.Dec.{T, not-T}
 use Rattle.sheets.proofs.Tests.{passed, failed, and-left, and-right, and-both}
 use Rattle.truth.specs.Sizes.{cell}
-use Rattle.truth.specs.Rows.{rowsHas, First}
-use Rattle.truth.specs.Pairs.{PairStep, edgeIn}
+use Rattle.truth.specs.inner.Rows.{rowsHas, First}
+use Rattle.truth.specs.inner.Pairs.{PairStep, edgeIn}
 use Rattle.truth.proofs.rows.RowWalks.{none-left, one-left, Less, less-in, less-or}
 
 -- ---- through the nodes of a row

@@ -10,9 +10,9 @@ use lib.Dec.{T}
 use Rattle.sheets.proofs.Tests.{contrary, surely}
 use Rattle.sheets.proofs.Search.{le-or-gt}
 use Rattle.truth.specs.Sizes.{membersMost}
-use Rattle.truth.specs.Rows.{rowsHas}
-use Rattle.truth.specs.Pairs.{PairStep, timeOf}
-use Rattle.truth.specs.Trails.{Looped, Traceable, Advances}
+use Rattle.truth.specs.inner.Rows.{rowsHas}
+use Rattle.truth.specs.inner.Pairs.{PairStep, timeOf}
+use Rattle.truth.specs.inner.Trails.{Looped, Traceable, Advances}
 use Rattle.truth.proofs.trail.TrailPairs.{Listed, once, range, fits, next-places, apart}
 
 -- the functions of the list after the pair (q, v) is listed at the place after `len`

@@ -11,9 +11,9 @@ use lib.Dec.{T}
 use Rattle.sheets.proofs.Search.{le-or-gt}
 use Rattle.sheets.proofs.Pigeonhole.{pigeonhole, pair, pair-below, pair-first, pair-second}
 use Rattle.truth.specs.Sizes.{positionsMost, membersMost}
-use Rattle.truth.specs.Rows.{rowsHas}
-use Rattle.truth.specs.Pairs.{PairStep, timeOf}
-use Rattle.truth.specs.Trails.{Traceable, Advances}
+use Rattle.truth.specs.inner.Rows.{rowsHas}
+use Rattle.truth.specs.inner.Pairs.{PairStep, timeOf}
+use Rattle.truth.specs.inner.Trails.{Traceable, Advances}
 use Rattle.truth.proofs.trail.TrailTurns.{in-range, in-places}
 
 -- Places 1 to `len` of a trail from (0, s), and `place`, which has the place of each pair that is listed, and 0 for another: after a pair

@@ -11,9 +11,9 @@ use lib.Dec.{T}
 use lib.ListN.{length, getD, set, length-set}
 use lib.Seq.{getD-set-same, getD-set-other}
 use Rattle.truth.specs.Sizes.{positionsMost, membersMost, pairsMost, pairAt}
-use Rattle.truth.specs.Rows.{rowsHas}
-use Rattle.truth.specs.Pairs.{timeOf}
-use Rattle.truth.specs.Trails.{placed, Looped, Traceable, Advances}
+use Rattle.truth.specs.inner.Rows.{rowsHas}
+use Rattle.truth.specs.inner.Pairs.{timeOf}
+use Rattle.truth.specs.inner.Trails.{placed, Looped, Traceable, Advances}
 use Rattle.truth.proofs.tables.TableLaws.{time-here, time-other}
 use Rattle.truth.proofs.trail.TrailTurns.{in-places}
 use Rattle.truth.proofs.trail.TrailPairs.{Listed, room, next-places}

@@ -7,9 +7,9 @@ use mathlib.Core.List.{List}
 use mathlib.Core.Bool.{true, false}
 use lib.Dec.{T, T-not}
 use Rattle.truth.specs.Sizes.{positionsMost, membersMost}
-use Rattle.truth.specs.Rows.{rowsHas}
-use Rattle.truth.specs.Pairs.{PairStep, Onward, timeOf, Sooner}
-use Rattle.truth.specs.Trails.{Traceable, Advances}
+use Rattle.truth.specs.inner.Rows.{rowsHas}
+use Rattle.truth.specs.inner.Pairs.{PairStep, Onward, timeOf, Sooner}
+use Rattle.truth.specs.inner.Trails.{Traceable, Advances}
 use Rattle.truth.proofs.rows.RowLaws.{held-in}
 use Rattle.truth.proofs.structure.EdgesBack.{reaches-up}
 

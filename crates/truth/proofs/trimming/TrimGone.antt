@@ -9,10 +9,10 @@ use lib.Dec.{T, eqb}
 use Rattle.sheets.specs.Words.{each}
 use Rattle.sheets.proofs.Tests.{and-left, and-both, eqb-same, eqb-other}
 use Rattle.truth.specs.Sizes.{membersMost, cell}
-use Rattle.truth.specs.Rows.{rowsHas}
-use Rattle.truth.specs.Pairs.{UpTo, Transposed, Before, Cleared, weight}
-use Rattle.truth.specs.Links.{Into}
-use Rattle.truth.specs.Trimmed.{Owed, Owing, OwingTo, Moved, Trimmed}
+use Rattle.truth.specs.inner.Rows.{rowsHas}
+use Rattle.truth.specs.inner.Pairs.{UpTo, Transposed, Before, Cleared, weight}
+use Rattle.truth.specs.inner.Links.{Into}
+use Rattle.truth.specs.inner.Trimmed.{Owed, Owing, OwingTo, Moved, Trimmed}
 use Rattle.truth.proofs.rows.RowLaws.{held-in, one-passes}
 use Rattle.truth.proofs.structure.EdgesBack.{back-of}
 use Rattle.truth.proofs.PairWeights.{weight-falls}

@@ -9,10 +9,10 @@ use lib.Dec.{T, T-not}
 use Rattle.sheets.specs.Words.{each}
 use Rattle.sheets.proofs.Tests.{contrary, and-left, and-right, and-both}
 use Rattle.truth.specs.Sizes.{membersMost, cell}
-use Rattle.truth.specs.Rows.{rowsHas}
-use Rattle.truth.specs.Pairs.{Onward}
-use Rattle.truth.specs.Links.{Into}
-use Rattle.truth.specs.Trimmed.{Stuck, Taken, Owed, OwingTo, Shrunk, Moved}
+use Rattle.truth.specs.inner.Rows.{rowsHas}
+use Rattle.truth.specs.inner.Pairs.{Onward}
+use Rattle.truth.specs.inner.Links.{Into}
+use Rattle.truth.specs.inner.Trimmed.{Stuck, Taken, Owed, OwingTo, Shrunk, Moved}
 use Rattle.truth.proofs.rows.RowLaws.{held-in, none-passes}
 use Rattle.truth.proofs.trimming.TrimTaken.{taken-fewer, taken-not, taken-moved}
 

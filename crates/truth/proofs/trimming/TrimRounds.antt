@@ -7,9 +7,9 @@ use mathlib.Core.List.{List}
 use mathlib.Core.Bool.{Bool, true, false, true≢false}
 use borrow.Author.Count.{below-more}
 use lib.Dec.{T}
-use Rattle.truth.specs.Rows.{rowsHas}
-use Rattle.truth.specs.Pairs.{UpTo, Transposed, NoRow, NoRows, Greatest, weight}
-use Rattle.truth.specs.Trimmed.{Trimmed, Started}
+use Rattle.truth.specs.inner.Rows.{rowsHas}
+use Rattle.truth.specs.inner.Pairs.{UpTo, Transposed, NoRow, NoRows, Greatest, weight}
+use Rattle.truth.specs.inner.Trimmed.{Trimmed, Started}
 use Rattle.truth.proofs.PairWeights.{weight-less}
 use Rattle.truth.proofs.trimming.TrimMoves.{shrunk-more}
 use Rattle.truth.proofs.trimming.TrimStart.{started-upto, started-upto-gone, started-largest, started-owing}

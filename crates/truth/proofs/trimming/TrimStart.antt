@@ -8,9 +8,9 @@ use mathlib.Core.List.{List}
 use mathlib.Core.Bool.{Bool, not, _&&_}
 use lib.Dec.{T, T-not}
 use Rattle.sheets.proofs.Tests.{surely, and-left, and-right, and-both}
-use Rattle.truth.specs.Rows.{rowsHas}
-use Rattle.truth.specs.Pairs.{UpTo, Transposed, Before, NoRow, Lasts, Inside}
-use Rattle.truth.specs.Trimmed.{SomeBelow, Taken, Owing, Ahead, Started}
+use Rattle.truth.specs.inner.Rows.{rowsHas}
+use Rattle.truth.specs.inner.Pairs.{UpTo, Transposed, Before, NoRow, Lasts, Inside}
+use Rattle.truth.specs.inner.Trimmed.{SomeBelow, Taken, Owing, Ahead, Started}
 use Rattle.truth.proofs.rows.RowLaws.{held-in}
 use Rattle.truth.proofs.structure.EdgesBack.{back-of, edge-of}
 use Rattle.truth.proofs.trimming.TrimSteps.{Through}

@@ -9,10 +9,10 @@ use lib.Dec.{T, not-T}
 use Rattle.sheets.specs.Words.{each}
 use Rattle.sheets.proofs.Tests.{passed, failed, and-left, and-right, and-both, or-left, or-right, or-cases}
 use Rattle.truth.specs.Sizes.{membersMost, lowAt, highAt, cell}
-use Rattle.truth.specs.Rows.{held, rowsHas}
-use Rattle.truth.specs.Pairs.{Onward}
-use Rattle.truth.specs.Links.{Among}
-use Rattle.truth.specs.Trimmed.{SomeBelow, Common, Stuck}
+use Rattle.truth.specs.inner.Rows.{held, rowsHas}
+use Rattle.truth.specs.inner.Pairs.{Onward}
+use Rattle.truth.specs.inner.Links.{Among}
+use Rattle.truth.specs.inner.Trimmed.{SomeBelow, Common, Stuck}
 use Rattle.truth.proofs.rows.RowLaws.{held-in, none-passes, one-passes}
 use Rattle.truth.proofs.rows.RowWalks.{Less, Sorted, Visited, visited-none, visited-next, visited-end}
 

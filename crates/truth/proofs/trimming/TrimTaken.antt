@@ -8,9 +8,9 @@ use mathlib.Core.Bool.{Bool, not, _&&_, _||_}
 use lib.ListN.{length}
 use lib.Dec.{T, T-not, not-T}
 use Rattle.sheets.proofs.Tests.{test, and-left, and-right, and-both, or-left, or-right, or-cases}
-use Rattle.truth.specs.Rows.{held, rowsHas}
-use Rattle.truth.specs.Pairs.{Onward, Lasts, Inside}
-use Rattle.truth.specs.Trimmed.{Taken, Moved}
+use Rattle.truth.specs.inner.Rows.{held, rowsHas}
+use Rattle.truth.specs.inner.Pairs.{Onward, Lasts, Inside}
+use Rattle.truth.specs.inner.Trimmed.{Taken, Moved}
 use Rattle.truth.proofs.tables.TableLaws.{stored, stored-here, stored-other, stored-length}
 
 -- ---- a store in each of two tables

@@ -1,7 +1,7 @@
 -- `block_meets` meets its contract: the row of the first machine meets its set, or that of the second does.
 use borrow.Author.Needs.{needs}
 use mathlib.Core.Path.{refl}
-use Rattle.truth.specs.Rows.{rowHas}
+use Rattle.truth.specs.inner.Rows.{rowHas}
 use Rattle.truth.proofs.tables.TableLaws.{loaded}
 use Rattle.comparison.proofs.BlockTables.{meets-first, meets-second}
 use Rattle.comparison.proofs.blocks.block_meets.Statement.{statement}

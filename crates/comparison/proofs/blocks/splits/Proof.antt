@@ -1,7 +1,7 @@
 -- `splits` meets its contract: a node in the sets, and one in their complements.
 use borrow.Author.Needs.{needs}
 use borrow.Author.Tests.{not-true, not-false}
-use Rattle.truth.specs.Rows.{rowHas}
+use Rattle.truth.specs.inner.Rows.{rowHas}
 use Rattle.comparison.proofs.BlockTables.{tells-none, tells-both}
 use Rattle.comparison.proofs.blocks.splits.Statement.{statement}
 use Rattle.comparison.proofs.blocks.splits.Tie as tie

@@ -1,6 +1,6 @@
 -- `block_has` meets its contract: the loaded row is the block.
 use mathlib.Core.Path.{refl, _∙_}
-use Rattle.truth.specs.Rows.{rowHas, rowsHas}
+use Rattle.truth.specs.inner.Rows.{rowHas, rowsHas}
 use Rattle.comparison.proofs.StartBlocks.{same-test}
 use Rattle.truth.proofs.tables.TableLaws.{loaded}
 use borrow.Author.Needs.{needs}

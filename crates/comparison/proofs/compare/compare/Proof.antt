@@ -3,7 +3,8 @@ use mathlib.Core.Path.{_≡_, sym, _∙_}
 use mathlib.Core.Logic.{inl}
 use native.Mathlib.Omega.{arith}
 use lib.ListN.{length}
-use Rattle.comparison.specs.Bounded.{Bounded}
+use Rattle.comparison.specs.inner.Sizes.{writtenSpace}
+use Rattle.comparison.specs.inner.Bounded.{Bounded}
 use Rattle.comparison.proofs.CompareAnswers.{refused, known, small, fits, equal-answer, listed, unequal-answer}
 use borrow.Author.Needs.{needs}
 use Rattle.comparison.proofs.compare.compare.Statement.{statement}
@@ -22,7 +23,7 @@ returns c =
 abbrev start : tie.Else1 → tie.Start
 start c = search
 
-words-long : (c : tie.After-refine) → length (c .refine .result .words) ≡ 5632
+words-long : (c : tie.After-refine) → length (c .refine .result .words) ≡ writtenSpace
 words-long c = search needs
 
 refine-requires : tie.Need-refine-requires

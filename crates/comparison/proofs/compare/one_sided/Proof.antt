@@ -3,9 +3,9 @@
 use Prim.Native.Nat.{ℕ, _-_, _≤_, _<_}
 use native.Mathlib.Omega.{arith}
 use mathlib.Core.Logic.{_↔_}
-use Rattle.truth.specs.Rows.{rowHas, rowsHas}
+use Rattle.truth.specs.inner.Rows.{rowHas, rowsHas}
 use Rattle.comparison.proofs.StartBlocks.{side-found, side-agrees, side-none}
-use Rattle.comparison.specs.Blocks.{HasStart}
+use Rattle.comparison.specs.inner.Blocks.{HasStart}
 use borrow.Author.Needs.{needs}
 use Rattle.comparison.proofs.compare.one_sided.Statement.{statement}
 use Rattle.comparison.proofs.compare.one_sided.Tie as tie

@@ -4,9 +4,9 @@ use Prim.Native.Nat.{ℕ, _+_, _-_, _≤_}
 use native.Mathlib.Omega.{arith}
 use mathlib.Core.List.{List}
 use lib.ListN.{length, getD}
-use Rattle.comparison.specs.Sizes.{writtenSpace, linePlaces}
-use Rattle.comparison.specs.Lines.{Entry, Downward, HoldsLines}
-use Rattle.comparison.specs.Needed.{AllStand, Closed, Copied}
+use Rattle.comparison.specs.inner.Sizes.{writtenSpace, linePlaces}
+use Rattle.comparison.specs.inner.Lines.{Entry, Downward, HoldsLines}
+use Rattle.comparison.specs.inner.Needed.{AllStand, Closed, Copied}
 use Rattle.comparison.proofs.NeededLines.{copied-none, copied-skipped, copied-line}
 use borrow.Author.Needs.{needs}
 use Rattle.comparison.proofs.needed.copy_needed.Statement.{statement}

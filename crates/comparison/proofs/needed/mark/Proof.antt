@@ -4,9 +4,9 @@ use Prim.Native.Nat.{ℕ, _-_, _≤_}
 use native.Mathlib.Omega.{arith}
 use mathlib.Core.List.{List}
 use lib.ListN.{length}
-use Rattle.comparison.specs.Sizes.{linePlaces}
-use Rattle.comparison.specs.Lines.{Entry, Downward, HoldsLines}
-use Rattle.comparison.specs.Needed.{AllStand, Closed}
+use Rattle.comparison.specs.inner.Sizes.{linePlaces}
+use Rattle.comparison.specs.inner.Lines.{Entry, Downward, HoldsLines}
+use Rattle.comparison.specs.inner.Needed.{AllStand, Closed}
 use Rattle.comparison.proofs.NeededMarks.{length-marks, closed-none, closed-skipped, closed-line}
 use borrow.Author.Needs.{needs}
 use Rattle.comparison.proofs.needed.mark.Statement.{statement}

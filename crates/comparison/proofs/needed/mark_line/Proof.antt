@@ -1,5 +1,5 @@
 -- `mark_line` meets its contract, kind by kind.
-use Rattle.comparison.specs.Needed.{marks}
+use Rattle.comparison.specs.inner.Needed.{marks}
 use mathlib.Core.Path.{ap, _∙_}
 use mathlib.Core.List.{List}
 use Prim.Native.Nat.{ℕ}

@@ -4,9 +4,9 @@ use Prim.Native.Nat.{ℕ, _+_, _-_, _≤_}
 use native.Mathlib.Omega.{arith}
 use mathlib.Core.List.{List, []}
 use lib.ListN.{length}
-use Rattle.comparison.specs.Sizes.{linePlaces}
-use Rattle.comparison.specs.Lines.{Entry, Downward, HoldsLines}
-use Rattle.comparison.specs.Needed.{Merged}
+use Rattle.comparison.specs.inner.Sizes.{linePlaces}
+use Rattle.comparison.specs.inner.Lines.{Entry, Downward, HoldsLines}
+use Rattle.comparison.specs.inner.Needed.{Merged}
 use Rattle.comparison.proofs.Lines.{padded}
 use Rattle.comparison.proofs.MergedLines.{merged-none}
 use borrow.Author.Needs.{needs}

@@ -2,7 +2,7 @@
 use mathlib.Core.Path.{ap, _∙_}
 use Prim.Native.Nat.{_-_}
 use native.Mathlib.Omega.{arith}
-use Rattle.comparison.specs.Needed.{entryOf}
+use Rattle.comparison.specs.inner.Needed.{entryOf}
 use Rattle.comparison.proofs.MergedLines.{kept-length, kept-next-length, next-kept, next-not, next-next, next-or}
 use borrow.Author.Needs.{needs}
 use Rattle.comparison.proofs.needed.merge_line.Statement.{statement}

@@ -1,5 +1,5 @@
 -- `renumbered` meets its contract, kind by kind.
-use Rattle.comparison.specs.Needed.{renumber}
+use Rattle.comparison.specs.inner.Needed.{renumber}
 use borrow.Author.Needs.{needs}
 use Rattle.comparison.proofs.needed.renumbered.Statement.{statement}
 use Rattle.comparison.proofs.needed.renumbered.Tie as tie

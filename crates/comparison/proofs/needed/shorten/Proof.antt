@@ -4,8 +4,8 @@ use Prim.Native.Nat.{_≤_}
 use native.Mathlib.Omega.{arith}
 use mathlib.Core.List.{[]}
 use lib.ListN.{length}
-use Rattle.comparison.specs.Sizes.{linePlaces}
-use Rattle.comparison.specs.Needed.{AllStand}
+use Rattle.comparison.specs.inner.Sizes.{linePlaces}
+use Rattle.comparison.specs.inner.Needed.{AllStand}
 use Rattle.comparison.proofs.Lines.{padded}
 use Rattle.comparison.proofs.NeededLines.{shortened}
 use borrow.Author.Needs.{needs}

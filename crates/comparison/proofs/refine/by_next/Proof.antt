@@ -2,8 +2,8 @@
 use borrow.Author.Needs.{needs}
 use mathlib.Core.Path.{_∙_}
 use native.Mathlib.Omega.{arith}
-use Rattle.truth.specs.Rows.{rowHas, rowsHas, leadsInto}
-use Rattle.comparison.specs.Tables.{state, written}
+use Rattle.truth.specs.inner.Rows.{rowHas, rowsHas, leadsInto}
+use Rattle.comparison.specs.inner.Tables.{state, written}
 use Rattle.comparison.proofs.Splitters.{loaded-leading}
 use Rattle.comparison.proofs.FinerBlocks.{split-within}
 use Rattle.comparison.proofs.refine.by_next.Statement.{statement}

@@ -1,9 +1,9 @@
 -- `by_nexts` meets its contract. The invariant: no signal splits a block. The measure is the blocks that may still come.
 use Prim.Native.Nat.{_-_}
 use Rattle.truth.specs.Passed.{nodesMost}
-use Rattle.truth.specs.Targets.{TailOf}
-use Rattle.comparison.specs.Tables.{state}
-use Rattle.comparison.specs.Stages.{Signalled}
+use Rattle.truth.specs.inner.Targets.{TailOf}
+use Rattle.comparison.specs.inner.Tables.{state}
+use Rattle.comparison.specs.inner.Stages.{Signalled}
 use Rattle.comparison.proofs.SettlingBlocks.{signalled-on, settled-end, turns-fewer}
 use Rattle.comparison.proofs.refine.by_nexts.Statement.{statement}
 use Rattle.comparison.proofs.refine.by_nexts.Tie as tie

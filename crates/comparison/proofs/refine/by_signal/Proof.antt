@@ -2,9 +2,9 @@
 use borrow.Author.Needs.{needs}
 use native.Mathlib.Omega.{arith}
 use Rattle.truth.specs.Passed.{kripke}
-use Rattle.truth.specs.Rows.{rowHas}
-use Rattle.comparison.specs.Tables.{State, state}
-use Rattle.comparison.specs.Stages.{Starts}
+use Rattle.truth.specs.inner.Rows.{rowHas}
+use Rattle.comparison.specs.inner.Tables.{State, state}
+use Rattle.comparison.specs.inner.Stages.{Starts}
 use Rattle.comparison.proofs.StagedSplits.{blocks-fit}
 use Rattle.comparison.proofs.Splitters.{signal-starts, divided-rows}
 use Rattle.comparison.proofs.refine.by_signal.Statement.{statement}

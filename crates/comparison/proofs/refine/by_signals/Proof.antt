@@ -4,7 +4,7 @@ use mathlib.Core.Path.{_≡_}
 use Prim.Native.Nat.{_≤_, _-_}
 use native.Mathlib.Omega.{arith}
 use Rattle.truth.specs.Passed.{signals}
-use Rattle.comparison.specs.Tables.{state}
+use Rattle.comparison.specs.inner.Tables.{state}
 use Rattle.comparison.proofs.SettlingBlocks.{SignalsTo, signals-none, signals-more, signals-all}
 use Rattle.comparison.proofs.refine.by_signals.Statement.{statement}
 use Rattle.comparison.proofs.refine.by_signals.Tie as tie

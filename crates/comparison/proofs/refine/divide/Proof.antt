@@ -4,9 +4,9 @@ use Prim.Native.Nat.{ℕ, _-_, _≤_}
 use native.Mathlib.Omega.{arith}
 use mathlib.Core.List.{List, []}
 use Rattle.truth.specs.Passed.{nodesMost}
-use Rattle.truth.specs.Rows.{rowHas}
-use Rattle.comparison.specs.Tables.{State, state, Room}
-use Rattle.comparison.specs.Stages.{Starts}
+use Rattle.truth.specs.inner.Rows.{rowHas}
+use Rattle.comparison.specs.inner.Tables.{State, state, Room}
+use Rattle.comparison.specs.inner.Stages.{Starts}
 use Rattle.comparison.proofs.StagedSplits.{blocks-fit}
 use Rattle.comparison.proofs.DividingBlocks.{Dividing, dividing-none, dividing-room, dividing-more, dividing-end}
 use Rattle.comparison.proofs.refine.divide.Statement.{statement}

@@ -1,7 +1,7 @@
 -- `mark_block` meets its contract: the rows of the block are marked.
 use borrow.Author.Needs.{needs}
 use mathlib.Core.Path.{refl}
-use Rattle.truth.specs.Rows.{rowHas, rowsHas}
+use Rattle.truth.specs.inner.Rows.{rowHas, rowsHas}
 use Rattle.truth.proofs.tables.TableLaws.{loaded}
 use Rattle.comparison.proofs.MarkedNodes.{marked-as}
 use Rattle.comparison.proofs.refine.mark_block.Statement.{statement}

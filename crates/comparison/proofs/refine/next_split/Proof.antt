@@ -3,8 +3,8 @@ use borrow.Author.Needs.{needs}
 use Prim.Native.Nat.{ℕ, _-_, _≤_, _<_}
 use native.Mathlib.Omega.{arith}
 use mathlib.Core.List.{List}
-use Rattle.truth.specs.Rows.{rowHas, rowsHas}
-use Rattle.comparison.specs.Blocks.{Unsplit}
+use Rattle.truth.specs.inner.Rows.{rowHas, rowsHas}
+use Rattle.comparison.specs.inner.Blocks.{Unsplit}
 use Rattle.comparison.proofs.DividingBlocks.{from-more}
 use Rattle.comparison.proofs.refine.next_split.Statement.{statement}
 use Rattle.comparison.proofs.refine.next_split.Tie as tie

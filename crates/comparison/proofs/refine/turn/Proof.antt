@@ -7,12 +7,12 @@ use Prim.Native.Nat.{_+_, _-_, _*_, _≤_}
 use native.Mathlib.Omega.{arith}
 use lib.ListN.{length}
 use Rattle.truth.specs.Passed.{nodesMost, signalsMost, linesWritten}
-use Rattle.truth.specs.Rows.{rowHas, rowsHas}
-use Rattle.truth.specs.Targets.{TailOf}
+use Rattle.truth.specs.inner.Rows.{rowHas, rowsHas}
+use Rattle.truth.specs.inner.Targets.{TailOf}
 use Rattle.truth.proofs.tables.TableLaws.{loaded}
-use Rattle.comparison.specs.Sizes.{blockPlaces, nodePlaces}
-use Rattle.comparison.specs.Tables.{State, state, written, firstOf, secondOf, Room}
-use Rattle.comparison.specs.Signatures.{TellsMark}
+use Rattle.comparison.specs.inner.Sizes.{blockPlaces, nodePlaces}
+use Rattle.comparison.specs.inner.Tables.{State, state, written, firstOf, secondOf, Room}
+use Rattle.comparison.specs.inner.Signatures.{TellsMark}
 use Rattle.comparison.proofs.StagedSplits.{blocks-fit, lines-fit}
 use Rattle.comparison.proofs.TurningBlocks.{Turning, turning-none, turning-end, turning-on, marks-in, mark-in, turning-room, turning-more}
 use Rattle.comparison.proofs.refine.turn.Statement.{statement}

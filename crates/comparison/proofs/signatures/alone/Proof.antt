@@ -3,7 +3,7 @@ use borrow.Author.Needs.{needs}
 use borrow.Author.Tests.{not-false}
 use mathlib.Core.Path.{sym, _∙_}
 use mathlib.Core.Bool.{true≢false}
-use Rattle.truth.specs.Rows.{rowHas}
+use Rattle.truth.specs.inner.Rows.{rowHas}
 use Rattle.truth.proofs.rows.RowLaws.{held-in, none-passes}
 use Rattle.comparison.proofs.signatures.alone.Statement.{statement}
 use Rattle.comparison.proofs.signatures.alone.Tie as tie

@@ -1,6 +1,6 @@
 -- `apart` meets its contract: what one row has and the other has not, on either side.
 use borrow.Author.Needs.{needs}
-use Rattle.truth.specs.Rows.{rowHas}
+use Rattle.truth.specs.inner.Rows.{rowHas}
 use Rattle.comparison.proofs.Surveys.{tells-apart}
 use Rattle.comparison.proofs.signatures.apart.Statement.{statement}
 use Rattle.comparison.proofs.signatures.apart.Tie as tie

@@ -1,7 +1,7 @@
 -- `at_most_one` meets its contract: nothing is left when one is taken.
 use borrow.Author.Needs.{needs}
 use mathlib.Core.Path.{sym, _∙_}
-use Rattle.truth.specs.Rows.{rowHas}
+use Rattle.truth.specs.inner.Rows.{rowHas}
 use Rattle.truth.proofs.rows.RowLaws.{held-in}
 use Rattle.comparison.proofs.Surveys.{one-only}
 use Rattle.comparison.proofs.signatures.at_most_one.Statement.{statement}

@@ -4,7 +4,7 @@ use mathlib.Core.Path.{sym, _∙_}
 use mathlib.Core.Bool.{not}
 use lib.Dec.{T}
 use Rattle.truth.specs.Sizes.{membersMost}
-use Rattle.truth.specs.Rows.{rowHas, tally, leadsInto}
+use Rattle.truth.specs.inner.Rows.{rowHas, tally, leadsInto}
 use Rattle.truth.proofs.rows.RowWalks.{none-left, one-left, one-within, Sorted, sorted-none, sorted-yes, sorted-no}
 use Rattle.comparison.proofs.Surveys.{sorted-leading}
 use Rattle.comparison.proofs.MarkedNodes.{left-falls}

@@ -1,9 +1,9 @@
 -- `led_by` meets its contract: the first node of the one row, or of the other, leads.
 use borrow.Author.Needs.{needs}
 use mathlib.Core.Path.{refl}
-use Rattle.truth.specs.Rows.{rowHas}
+use Rattle.truth.specs.inner.Rows.{rowHas}
 use Rattle.truth.proofs.rows.RowWalks.{none-left, one-left}
-use Rattle.comparison.specs.Signatures.{MarksIn}
+use Rattle.comparison.specs.inner.Signatures.{MarksIn}
 use Rattle.comparison.proofs.Surveys.{led-first, led-second, led-none}
 use Rattle.comparison.proofs.signatures.led_by.Statement.{statement}
 use Rattle.comparison.proofs.signatures.led_by.Tie as tie

@@ -3,7 +3,7 @@ use borrow.Author.Needs.{needs}
 use mathlib.Core.Path.{refl}
 use native.Mathlib.Omega.{arith}
 use Rattle.truth.specs.Sizes.{membersMost}
-use Rattle.truth.specs.Rows.{rowHas, tally}
+use Rattle.truth.specs.inner.Rows.{rowHas, tally}
 use Rattle.truth.proofs.rows.RowWalks.{none-left, one-left, one-within}
 use Rattle.comparison.proofs.MarkedNodes.{left-falls, Marking, marking-none, marking-next, marking-end}
 use Rattle.comparison.proofs.signatures.mark_row.Statement.{statement}

@@ -4,10 +4,10 @@ use mathlib.Core.Path.{_≡_, refl}
 use Prim.Native.Nat.{_-_, _≤_}
 use native.Mathlib.Omega.{arith}
 use lib.ListN.{length}
-use Rattle.truth.specs.Rows.{rowHas, rowsHas}
+use Rattle.truth.specs.inner.Rows.{rowHas, rowsHas}
 use Rattle.truth.proofs.tables.TableLaws.{loaded}
-use Rattle.comparison.specs.Sizes.{nodePlaces}
-use Rattle.comparison.specs.Signatures.{BlockMarks}
+use Rattle.comparison.specs.inner.Sizes.{nodePlaces}
+use Rattle.comparison.specs.inner.Signatures.{BlockMarks}
 use Rattle.comparison.proofs.MarkedNodes.{marked-none, marked-more}
 use Rattle.comparison.proofs.signatures.marks.Statement.{statement}
 use Rattle.comparison.proofs.signatures.marks.Tie as tie

@@ -1,8 +1,8 @@
 -- `splitter` meets its contract: a block of one node is not split, and of another the nodes that are unlike the leader tell.
 use borrow.Author.Needs.{needs}
-use Rattle.truth.specs.Rows.{rowHas}
+use Rattle.truth.specs.inner.Rows.{rowHas}
 use Rattle.truth.proofs.rows.RowLaws.{held-in}
-use Rattle.comparison.specs.Signatures.{MarksIn}
+use Rattle.comparison.specs.inner.Signatures.{MarksIn}
 use Rattle.comparison.proofs.Surveys.{mark-alone, unlike-first, unlike-second}
 use Rattle.comparison.proofs.signatures.splitter.Statement.{statement}
 use Rattle.comparison.proofs.signatures.splitter.Tie as tie

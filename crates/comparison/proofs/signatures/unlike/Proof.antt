@@ -2,9 +2,9 @@
 use borrow.Author.Needs.{needs}
 use mathlib.Core.Path.{sym, _∙_}
 use Rattle.truth.specs.Sizes.{membersMost}
-use Rattle.truth.specs.Rows.{rowHas, tally}
+use Rattle.truth.specs.inner.Rows.{rowHas, tally}
 use Rattle.truth.proofs.rows.RowWalks.{none-left, one-left, one-within}
-use Rattle.comparison.specs.Signatures.{MarksIn}
+use Rattle.comparison.specs.inner.Signatures.{MarksIn}
 use Rattle.comparison.proofs.Surveys.{Liked, liked-none, liked-next, liked-end, liked-not}
 use Rattle.comparison.proofs.MarkedNodes.{left-falls}
 use Rattle.comparison.proofs.signatures.unlike.Statement.{statement}

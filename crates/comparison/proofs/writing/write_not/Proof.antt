@@ -1,6 +1,6 @@
 -- `write_not` meets its contract: the words are those of the line.
 use borrow.Author.Needs.{needs}
-use Rattle.comparison.specs.Lines.{words}
+use Rattle.comparison.specs.inner.Lines.{words}
 use Rattle.comparison.proofs.HeldLines.{adds-line}
 use Rattle.comparison.proofs.writing.write_not.Statement.{statement}
 use Rattle.comparison.proofs.writing.write_not.Tie as tie

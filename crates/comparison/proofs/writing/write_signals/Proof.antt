@@ -3,7 +3,7 @@ use borrow.Author.Needs.{needs}
 use Prim.Native.Nat.{_≤_, _-_}
 use native.Mathlib.Omega.{arith}
 use mathlib.Core.Path.{_≡_}
-use Rattle.comparison.specs.Lines.{signalLines, HoldsLines}
+use Rattle.comparison.specs.inner.Lines.{signalLines, HoldsLines}
 use Rattle.comparison.proofs.HeldLines.{holds-none, holds-signal}
 use Rattle.comparison.proofs.writing.write_signals.Statement.{statement}
 use Rattle.comparison.proofs.writing.write_signals.Tie as tie

@@ -4,7 +4,7 @@ use Prim.Native.Nat.{ℕ, _-_, _≤_}
 use native.Mathlib.Omega.{arith}
 use mathlib.Core.List.{List}
 use mathlib.Core.Bool.{Bool, false}
-use Rattle.sheets.specs.Positions.{someBelow, mixing}
+use Rattle.sheets.specs.inner.Positions.{someBelow, mixing}
 use Rattle.sheets.proofs.Positions.{some-none, some-next, some-met}
 use borrow.Author.Needs.{needs}
 use Rattle.sheets.proofs.condition.mixed.Statement.{statement}

@@ -3,7 +3,7 @@ use mathlib.Core.Path.{_≡_, sym, _∙_}
 use Prim.Native.Nat.{_-_, _≤_}
 use native.Mathlib.Omega.{arith}
 use mathlib.Core.Bool.{false}
-use Rattle.sheets.specs.Positions.{someBelow, mixing}
+use Rattle.sheets.specs.inner.Positions.{someBelow, mixing}
 use Rattle.sheets.proofs.Positions.{some-none, some-next, some-met}
 use borrow.Author.Needs.{needs}
 use Rattle.sheets.proofs.condition.mixes_some.Statement.{statement}

@@ -3,7 +3,7 @@ use mathlib.Core.Path.{_≡_, sym, _∙_}
 use Prim.Native.Nat.{ℕ, _-_, _≤_}
 use native.Mathlib.Omega.{arith}
 use Rattle.sheets.specs.Words.{bit}
-use Rattle.sheets.specs.Positions.{inRow, reachedAt}
+use Rattle.sheets.specs.inner.Positions.{inRow, reachedAt}
 use Rattle.sheets.proofs.ReachedPositions.{reach-first, reach-round}
 use borrow.Author.Needs.{needs}
 use Rattle.sheets.proofs.condition.reached_row.Statement.{statement}

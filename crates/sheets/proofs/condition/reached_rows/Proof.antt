@@ -5,7 +5,7 @@ use native.Mathlib.Omega.{arith}
 use mathlib.Core.List.{List}
 use lib.ListN.{length, getD, length-set}
 use Rattle.sheets.specs.Words.{bit}
-use Rattle.sheets.specs.Positions.{inRow, reachedAt}
+use Rattle.sheets.specs.inner.Positions.{inRow, reachedAt}
 use Rattle.sheets.proofs.Positions.{stored}
 use borrow.Author.Needs.{needs}
 use Rattle.sheets.proofs.condition.reached_rows.Statement.{statement}

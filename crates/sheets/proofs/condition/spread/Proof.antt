@@ -3,7 +3,7 @@ use mathlib.Core.Path.{_≡_, sym, _∙_}
 use Prim.Native.Nat.{ℕ, _-_, _≤_}
 use native.Mathlib.Omega.{arith}
 use Rattle.sheets.specs.Words.{bit}
-use Rattle.sheets.specs.Positions.{inRow}
+use Rattle.sheets.specs.inner.Positions.{inRow}
 use Rattle.sheets.proofs.BitLaws.{bit-or}
 use Rattle.sheets.proofs.Positions.{joined, joined-none, joined-yes, joined-no}
 use borrow.Author.Needs.{needs}

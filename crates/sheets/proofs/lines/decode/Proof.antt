@@ -2,7 +2,7 @@
 use borrow.Author.Needs.{needs}
 use mathlib.Core.Path.{ap}
 use Rattle.sheets.specs.Rules.{lineOf, lineFits}
-use Rattle.sheets.specs.Lines.{handed}
+use Rattle.sheets.specs.inner.Lines.{handed}
 use Rattle.sheets.specs.declared.lines.Line.the-variants.{Signal, Negation, SomePath, SomePathNot}
 use Rattle.sheets.specs.declared.lines.Decoded.the-variants.{Formed}
 use Rattle.sheets.proofs.DecodedLines.{unfit, unknown, formed}

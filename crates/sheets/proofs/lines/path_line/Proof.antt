@@ -1,6 +1,6 @@
 -- `path_line` meets its contract.
 use borrow.Author.Needs.{needs}
-use Rattle.sheets.specs.Lines.{pathLine}
+use Rattle.sheets.specs.inner.Lines.{pathLine}
 use Rattle.sheets.proofs.lines.path_line.Statement.{statement}
 use Rattle.sheets.proofs.lines.path_line.Tie as tie
 

@@ -1,7 +1,7 @@
 -- `signal_most` meets its contract, by the kinds of line.
 use borrow.Author.Needs.{needs}
 use mathlib.Core.Path.{sym, ap}
-use Rattle.sheets.specs.Lines.{mostOf}
+use Rattle.sheets.specs.inner.Lines.{mostOf}
 use Rattle.sheets.proofs.lines.signal_most.Statement.{statement}
 use Rattle.sheets.proofs.lines.signal_most.Tie as tie
 

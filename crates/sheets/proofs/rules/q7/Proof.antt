@@ -1,5 +1,6 @@
 -- `q7` meets its contract: the limits are tested one after another, each on the word that was read.
 use borrow.Author.Tests.{le-leb, lt-leb}
+use Rattle.sheets.specs.Format.{ruleHeader, automataMost, statesMost, transitionsMost}
 use Rattle.sheets.specs.Words.{within}
 use Rattle.sheets.specs.Rules.{lent, fits, q7}
 use borrow.Author.Needs.{needs}
@@ -8,14 +9,14 @@ use Rattle.sheets.proofs.rules.q7.Tie as tie
 
 returns : tie.Need-returns
 unfolding q7
-returns c = simp (lt-leb 4 _ (c .if1 .taken))
+returns c = simp (lt-leb ruleHeader _ (c .if1 .taken))
 
 automata-requires : tie.Need-automata-requires
 automata-requires c κs = search needs
 
 returns-2 : tie.Need-returns-2
 unfolding q7 lent fits
-returns-2 c = simp (le-leb 4 _ (c .before .before .if1 .left), rw (c .before .automata .ensures) at (lt-leb _ 16 (c .if2 .taken)))
+returns-2 c = simp (le-leb ruleHeader _ (c .before .before .if1 .left), rw (c .before .automata .ensures) at (lt-leb _ automataMost (c .if2 .taken)))
 
 states-requires : tie.Need-states-requires
 states-requires c κs = search needs
@@ -24,9 +25,9 @@ returns-3 : tie.Need-returns-3
 unfolding q7 lent fits
 returns-3 c =
     simp (
-      le-leb 4 _ (c .before .before .before .before .if1 .left),
-      rw (c .before .before .before .automata .ensures) at (le-leb _ 16 (c .before .before .if2 .left)),
-      rw (c .before .states .ensures) at (lt-leb _ 256 (c .if3 .taken)),
+      le-leb ruleHeader _ (c .before .before .before .before .if1 .left),
+      rw (c .before .before .before .automata .ensures) at (le-leb _ automataMost (c .before .before .if2 .left)),
+      rw (c .before .states .ensures) at (lt-leb _ statesMost (c .if3 .taken)),
     )
 
 transitions-requires : tie.Need-transitions-requires
@@ -36,10 +37,10 @@ returns-4 : tie.Need-returns-4
 unfolding q7 lent fits
 returns-4 c =
     simp (
-      le-leb 4 _ (c .before .before .before .before .before .before .if1 .left),
-      rw (c .before .before .before .before .before .automata .ensures) at (le-leb _ 16 (c .before .before .before .before .if2 .left)),
-      rw (c .before .before .before .states .ensures) at (le-leb _ 256 (c .before .before .if3 .left)),
-      rw (c .before .transitions .ensures) at (lt-leb _ 1024 (c .if4 .taken)),
+      le-leb ruleHeader _ (c .before .before .before .before .before .before .if1 .left),
+      rw (c .before .before .before .before .before .automata .ensures) at (le-leb _ automataMost (c .before .before .before .before .if2 .left)),
+      rw (c .before .before .before .states .ensures) at (le-leb _ statesMost (c .before .before .if3 .left)),
+      rw (c .before .transitions .ensures) at (lt-leb _ transitionsMost (c .if4 .taken)),
     )
 
 lines-requires : tie.Need-lines-requires
@@ -52,10 +53,10 @@ returns-5 : tie.Need-returns-5
 unfolding q7 lent fits within
 returns-5 c =
     simp (
-      le-leb 4 _ (c .before .before .before .before .before .before .before .before .if1 .left),
-      rw (c .before .before .before .before .before .before .before .automata .ensures) at (le-leb _ 16 (c .before .before .before .before .before .before .if2 .left)),
-      rw (c .before .before .before .before .before .states .ensures) at (le-leb _ 256 (c .before .before .before .before .if3 .left)),
-      rw (c .before .before .before .transitions .ensures) at (le-leb _ 1024 (c .before .before .if4 .left)),
+      le-leb ruleHeader _ (c .before .before .before .before .before .before .before .before .if1 .left),
+      rw (c .before .before .before .before .before .before .before .automata .ensures) at (le-leb _ automataMost (c .before .before .before .before .before .before .if2 .left)),
+      rw (c .before .before .before .before .before .states .ensures) at (le-leb _ statesMost (c .before .before .before .before .if3 .left)),
+      rw (c .before .before .before .transitions .ensures) at (le-leb _ transitionsMost (c .before .before .if4 .left)),
     )
     (rw (c .before .lines .ensures) at (c .within .ensures))
 

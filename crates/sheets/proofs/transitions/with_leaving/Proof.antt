@@ -1,7 +1,7 @@
 -- `with_leaving` meets its contract: the positions of the target, and what each field has with them.
 use native.Mathlib.Omega.{arith}
 use mathlib.Core.Path.{refl, sym, subst}
-use Rattle.sheets.specs.Transitions.{LeavingTaken}
+use Rattle.sheets.specs.inner.Transitions.{LeavingTaken}
 use Rattle.sheets.specs.declared.words.Step.{Step}
 use Rattle.sheets.proofs.LeavingChains.{left-wide, left-more}
 use borrow.Author.Needs.{needs}

@@ -37,7 +37,7 @@ use denote.Triple.Entry.{onEntry}
 use denote.Triple.Spec.{Meets, tripleOf}
 use denote.Triple.Table.{entered, cited}
 use denote.Triple.Walked.{says, Stays, stay-ref, walkOf, goes-ref, Walks, ends-at, walked, walk-meets}
-use Rattle.sheets.specs.Walkers.{afterStep, movedTo}
+use Rattle.sheets.specs.inner.Walkers.{afterStep, movedTo}
 use Rattle.sheets.specs.declared.walker.Walker.{Walker}
 use Rattle.sheets.specs.declared.words.Step.{Step}
 use Rattle.sheets.proofs.walker.Walker as T

@@ -1,6 +1,6 @@
 -- `put` meets its contract, state by state: a number is stored at the place behind the words before it.
 use native.Mathlib.Omega.{arith}
-use Rattle.text.specs.Readers.{held}
+use Rattle.text.specs.inner.Readers.{held}
 use borrow.Author.Needs.{needs}
 use Rattle.text.proofs.read.put.Statement.{statement}
 use Rattle.text.proofs.read.put.Tie as tie

@@ -1,5 +1,5 @@
 -- `told` meets its contract, state by state.
-use Rattle.text.specs.Readers.{toldOf}
+use Rattle.text.specs.inner.Readers.{toldOf}
 use borrow.Author.Needs.{needs}
 use Rattle.text.proofs.read.told.Statement.{statement}
 use Rattle.text.proofs.read.told.Tie as tie

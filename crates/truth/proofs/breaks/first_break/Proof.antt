@@ -5,7 +5,7 @@ use borrow.Author.Tests.{not-true, not-false}
 use native.Mathlib.Omega.{arith}
 use Prim.Native.Nat.{_-_, _≤_}
 use Rattle.sheets.specs.Machine.{nodes, startFlag}
-use Rattle.truth.specs.Rows.{rowHas}
+use Rattle.truth.specs.inner.Rows.{rowHas}
 use Rattle.truth.proofs.breaks.BreakNodes.{PassedTo, passed-none, passed-in, passed-other, outside-found, outside-none}
 use Rattle.truth.proofs.breaks.first_break.Statement.{statement}
 use Rattle.truth.proofs.breaks.first_break.Tie as tie

@@ -5,8 +5,8 @@ use native.Mathlib.Omega.{arith}
 use mathlib.Core.Bool.{not}
 use lib.ListN.{length}
 use Rattle.truth.specs.Sizes.{setWords}
-use Rattle.truth.specs.Rows.{rowsHas}
-use Rattle.truth.specs.Growing.{left, Turns}
+use Rattle.truth.specs.inner.Rows.{rowsHas}
+use Rattle.truth.specs.inner.Growing.{left, Turns}
 use Rattle.truth.proofs.PairWeights.{weight-most}
 use Rattle.truth.proofs.growth.GrowthRounds.{turns-none, turns-more, growing-first, growing-last}
 use Rattle.truth.proofs.growth.grow.Statement.{statement}

@@ -7,9 +7,9 @@ use lib.Dec.{T}
 use Rattle.sheets.proofs.Tests.{and-left}
 use Rattle.sheets.proofs.Counting.{number}
 use Rattle.truth.specs.Sizes.{membersMost, cell}
-use Rattle.truth.specs.Rows.{rowHas, rowsHas}
-use Rattle.truth.specs.Pairs.{Before, Cleared}
-use Rattle.truth.specs.Growing.{Spread, enters}
+use Rattle.truth.specs.inner.Rows.{rowHas, rowsHas}
+use Rattle.truth.specs.inner.Pairs.{Before, Cleared}
+use Rattle.truth.specs.inner.Growing.{Spread, enters}
 use Rattle.truth.proofs.rows.RowLaws.{held-in}
 use Rattle.truth.proofs.rows.RowWalks.{none-left, one-left, one-within, less-falls, less-in}
 use Rattle.truth.proofs.tables.TableLaws.{emptied}

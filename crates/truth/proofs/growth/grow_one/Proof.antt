@@ -6,8 +6,8 @@ use mathlib.Core.Bool.{not, _&&_}
 use mathlib.Core.List.{List}
 use lib.ListN.{length}
 use lib.Dec.{eqb}
-use Rattle.truth.specs.Rows.{rowHas, rowsHas}
-use Rattle.truth.specs.Growing.{TimePut, Spread, enters}
+use Rattle.truth.specs.inner.Rows.{rowHas, rowsHas}
+use Rattle.truth.specs.inner.Growing.{TimePut, Spread, enters}
 use Rattle.truth.proofs.tables.TableLaws.{stored-length, stored-more}
 use Rattle.truth.proofs.growth.RowAdditions.{spread-one, spread-empty, no-time-put}
 use Rattle.truth.proofs.growth.grow_one.Statement.{statement}

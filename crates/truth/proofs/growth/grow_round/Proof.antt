@@ -7,9 +7,9 @@ use mathlib.Core.Bool.{not}
 use Rattle.sheets.specs.Words.{each}
 use native.Mathlib.Omega.{arith}
 use Rattle.truth.specs.Sizes.{membersMost}
-use Rattle.truth.specs.Rows.{rowsHas}
-use Rattle.truth.specs.Pairs.{NoRow, NoRows}
-use Rattle.truth.specs.Growing.{Turns}
+use Rattle.truth.specs.inner.Rows.{rowsHas}
+use Rattle.truth.specs.inner.Pairs.{NoRow, NoRows}
+use Rattle.truth.specs.inner.Growing.{Turns}
 use Rattle.truth.proofs.rows.RowLaws.{held-in, none-passes}
 use Rattle.truth.proofs.growth.GrowthRounds.{turns-none, turns-one, turns-more}
 use Rattle.truth.proofs.growth.grow_round.Statement.{statement}

@@ -2,7 +2,7 @@
 use native.Mathlib.Omega.{arith}
 use Rattle.sheets.proofs.Counting.{number}
 use Rattle.truth.specs.Sizes.{membersMost}
-use Rattle.truth.specs.Rows.{rowHas}
+use Rattle.truth.specs.inner.Rows.{rowHas}
 use Rattle.truth.proofs.rows.RowLaws.{held-in}
 use Rattle.truth.proofs.rows.RowWalks.{none-left, one-left, one-within, less-falls}
 use Rattle.truth.proofs.growth.RowTimes.{Putting, putting-none, putting-all, putting-more}

@@ -1,5 +1,5 @@
 -- `keeps` meets its contract: no start node is outside the row, since the start nodes are among 1 to 128.
-use Rattle.truth.specs.Rows.{rowHas}
+use Rattle.truth.specs.inner.Rows.{rowHas}
 use Rattle.truth.proofs.labelling.StartRows.{starts-in}
 use native.Mathlib.Omega.{arith}
 use Rattle.truth.proofs.labelling.keeps.Statement.{statement}

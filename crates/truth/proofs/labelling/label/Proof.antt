@@ -9,7 +9,7 @@ use Rattle.sheets.proofs.Counting.{number-most}
 use Rattle.sheets.proofs.AcceptedMachine.{nodes-sized}
 use Rattle.sheets.proofs.AcceptedRule.{some-line}
 use Rattle.truth.specs.Sizes.{membersMost, rowWordBits}
-use Rattle.truth.specs.Rows.{rowHas}
+use Rattle.truth.specs.inner.Rows.{rowHas}
 use Rattle.truth.proofs.labelling.LabelTable.{machine-accepted, rules-accepted, space-enough}
 use Rattle.truth.proofs.rows.RowLaws.{tally-number}
 use Rattle.truth.proofs.labelling.LabelAnswers.{refused, done}

@@ -2,7 +2,7 @@
 use mathlib.Core.Path.{_∙_}
 use Prim.Native.Nat.{_-_}
 use mathlib.Core.Bool.{_||_}
-use Rattle.truth.specs.Rows.{rowHas, rowsHas}
+use Rattle.truth.specs.inner.Rows.{rowHas, rowsHas}
 use Rattle.truth.proofs.lines.LineRows.{nodes-passing}
 use native.Mathlib.Omega.{arith}
 use Rattle.truth.proofs.lines.either_row.Statement.{statement}

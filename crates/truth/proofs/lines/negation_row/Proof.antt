@@ -1,7 +1,7 @@
 -- `negation_row` meets its contract: the nodes without those of the line's row.
 use Prim.Native.Nat.{_-_}
 use mathlib.Core.Bool.{not}
-use Rattle.truth.specs.Rows.{rowHas, rowsHas}
+use Rattle.truth.specs.inner.Rows.{rowHas, rowsHas}
 use Rattle.truth.proofs.lines.LineRows.{nodes-passing}
 use native.Mathlib.Omega.{arith}
 use Rattle.truth.proofs.lines.negation_row.Statement.{statement}

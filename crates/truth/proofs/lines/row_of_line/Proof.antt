@@ -1,7 +1,7 @@
 -- `row_of_line` meets its contract: the decoded line is the line of the definitions, and each arm makes the row of its operation.
 use mathlib.Core.Path.{_≡_, sym, _∙_}
 use mathlib.Core.Bool.{true, false}
-use Rattle.sheets.specs.Lines.{decoded}
+use Rattle.sheets.specs.inner.Lines.{decoded}
 use Rattle.sheets.specs.declared.lines.Line.{Line}
 use Rattle.sheets.specs.declared.lines.Decoded.the-variants.{Formed}
 use Rattle.truth.proofs.lines.DecodedKinds.{told}

@@ -7,8 +7,8 @@ use mathlib.Core.Bool.{_&&_}
 use lib.Dec.{leb}
 use Rattle.sheets.specs.Words.{within}
 use Rattle.truth.specs.Sizes.{membersMost, cell, setWords}
-use Rattle.truth.specs.Rows.{rowHas}
-use Rattle.truth.specs.Product.{lineAt}
+use Rattle.truth.specs.inner.Rows.{rowHas}
+use Rattle.truth.specs.inner.Product.{lineAt}
 use Rattle.truth.proofs.tables.TableLaws.{zero-row}
 use Rattle.truth.proofs.tables.LinkedSets.{linked-none}
 use Rattle.truth.proofs.lines.PathRows.{solved-line}

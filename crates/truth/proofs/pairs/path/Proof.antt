@@ -37,7 +37,8 @@ use denote.Struct.Laws as LL
 use denote.Triple.Spec.{Meets, tripleOf}
 use denote.Triple.Statement.{Contract, Triple}
 use denote.Triple.Table.{entered, cited}
-use Rattle.truth.specs.PathAnswers.{lengthOf, MadeFor}
+use Rattle.truth.specs.PathAnswers.{lengthOf}
+use Rattle.truth.specs.inner.Made.{MadeFor}
 use Rattle.truth.specs.PathPairs.{pairNodes, pairStates}
 use Rattle.truth.specs.declared.pairs.Pair.{Pair}
 use Rattle.truth.specs.declared.path.Shown.{Shown}

@@ -7,7 +7,7 @@ use mathlib.Core.List.{List}
 use lib.Dec.{leb}
 use Rattle.sheets.specs.Machine.{nodes}
 use Rattle.sheets.specs.Rules.{lent, lineWord}
-use Rattle.sheets.specs.Lines.{pathLine}
+use Rattle.sheets.specs.inner.Lines.{pathLine}
 use Rattle.sheets.specs.declared.lines.PathLine.{PathLine}
 use Rattle.sheets.specs.Positioned.{stateCount}
 use Rattle.truth.specs.Path.{asked, q19}

@@ -8,9 +8,9 @@ use native.Mathlib.Omega.{arith}
 use lib.ListN.{length}
 use Rattle.sheets.specs.Positioned.{stateCount, stateOf, positioned}
 use Rattle.truth.specs.Sizes.{pairsMost}
-use Rattle.truth.specs.Pairs.{Timed}
-use Rattle.truth.specs.Product.{lineAt, argumentOf}
-use Rattle.truth.specs.OneLine.{SolvedLine}
+use Rattle.truth.specs.inner.Pairs.{Timed}
+use Rattle.truth.specs.inner.Product.{lineAt, argumentOf}
+use Rattle.truth.specs.inner.OneLine.{SolvedLine}
 use Rattle.truth.proofs.lines.PathRows.{states-few, solvable}
 use Rattle.truth.proofs.path.ShownLines.{none-shown, traceable, list-fits, shows-line}
 use Rattle.truth.proofs.path.show.Statement.{statement}

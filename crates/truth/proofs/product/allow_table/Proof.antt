@@ -4,9 +4,9 @@ use mathlib.Core.Path.{_≡_}
 use Prim.Native.Nat.{_-_, _*_, _≤_}
 use native.Mathlib.Omega.{arith}
 use Rattle.truth.specs.Sizes.{positionsMost}
-use Rattle.truth.specs.Rows.{rowHas}
-use Rattle.truth.specs.Links.{Into, Onto}
-use Rattle.truth.specs.Product.{lineAt}
+use Rattle.truth.specs.inner.Rows.{rowHas}
+use Rattle.truth.specs.inner.Links.{Into, Onto}
+use Rattle.truth.specs.inner.Product.{lineAt}
 use Rattle.truth.proofs.product.AllowedTables.{Built, built-none, built-past, built-more, built-allowed}
 use Rattle.truth.proofs.product.allow_table.Statement.{statement}
 use Rattle.truth.proofs.product.allow_table.Tie as tie

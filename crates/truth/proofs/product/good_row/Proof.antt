@@ -2,8 +2,8 @@
 use mathlib.Core.Path.{sym, _∙_}
 use native.Mathlib.Omega.{arith}
 use mathlib.Core.Bool.{and-true, and-false}
-use Rattle.truth.specs.Rows.{rowHas}
-use Rattle.truth.specs.Product.{turned}
+use Rattle.truth.specs.inner.Rows.{rowHas}
+use Rattle.truth.specs.inner.Product.{turned}
 use Rattle.truth.proofs.product.good_row.Statement.{statement}
 use Rattle.truth.proofs.product.good_row.Tie as tie
 

@@ -6,8 +6,8 @@ use native.Mathlib.Omega.{arith}
 use mathlib.Core.Bool.{Bool, _&&_}
 use Rattle.sheets.specs.Words.{bit}
 use Rattle.truth.specs.Sizes.{setWords}
-use Rattle.truth.specs.Rows.{rowHas}
-use Rattle.truth.specs.Product.{turned}
+use Rattle.truth.specs.inner.Rows.{rowHas}
+use Rattle.truth.specs.inner.Product.{turned}
 use Rattle.truth.specs.declared.rows.Row.{Row}
 use Rattle.truth.proofs.tables.TableLaws.{Filled, filled-none, filled-more}
 use Rattle.truth.proofs.product.good_table.Statement.{statement}

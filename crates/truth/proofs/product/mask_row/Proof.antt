@@ -1,6 +1,6 @@
 -- `mask_row` meets its contract: a member of the mask's set is a valuation.
 use native.Mathlib.Omega.{arith}
-use Rattle.truth.specs.Rows.{rowHas}
+use Rattle.truth.specs.inner.Rows.{rowHas}
 use Rattle.truth.proofs.product.MaskRows.{drawn}
 use Rattle.truth.proofs.product.mask_row.Statement.{statement}
 use Rattle.truth.proofs.product.mask_row.Tie as tie

@@ -5,8 +5,8 @@ use Prim.Native.Nat.{ℕ, _-_, _≤_}
 use native.Mathlib.Omega.{arith}
 use borrow.Author.Needs.{needs}
 use mathlib.Core.Bool.{_&&_}
-use Rattle.truth.specs.Rows.{rowHas}
-use Rattle.truth.specs.Product.{agrees, lineAt, argumentAt}
+use Rattle.truth.specs.inner.Rows.{rowHas}
+use Rattle.truth.specs.inner.Product.{agrees, lineAt, argumentAt}
 use Rattle.truth.proofs.tables.TableLaws.{loaded}
 use Rattle.truth.proofs.product.ValuationRows.{agrees-none, agrees-yes, agrees-no}
 use Rattle.truth.proofs.product.valuation_row.Statement.{statement}

@@ -6,9 +6,9 @@ use native.Mathlib.Omega.{arith}
 use mathlib.Core.List.{List}
 use mathlib.Core.Bool.{Bool, _&&_}
 use Rattle.truth.specs.Sizes.{highAt, setWords}
-use Rattle.truth.specs.Rows.{rowHas}
-use Rattle.truth.specs.Pairs.{NoRow}
-use Rattle.truth.specs.Product.{agrees, lineAt, argumentAt}
+use Rattle.truth.specs.inner.Rows.{rowHas}
+use Rattle.truth.specs.inner.Pairs.{NoRow}
+use Rattle.truth.specs.inner.Product.{agrees, lineAt, argumentAt}
 use Rattle.truth.specs.declared.rows.Row.{Row}
 use Rattle.truth.proofs.product.ValuationRows.{valuations}
 use Rattle.truth.proofs.tables.TableLaws.{zero-row, Filled, filled-none, filled-more, empty-after}

@@ -6,8 +6,8 @@ use Prim.Native.Nat.{ℕ, _<_}
 use mathlib.Core.Bool.{_&&_, _||_}
 use Rattle.sheets.specs.Words.{within}
 use Rattle.truth.specs.Sizes.{membersMost}
-use Rattle.truth.specs.Rows.{rowHas}
-use Rattle.truth.specs.Targets.{linksEnd, chainLeads}
+use Rattle.truth.specs.inner.Rows.{rowHas}
+use Rattle.truth.specs.inner.Targets.{linksEnd, chainLeads}
 use Rattle.truth.proofs.structure.TargetRows.{tail-used, chain-until}
 use Rattle.truth.proofs.structure.chain_row.Statement.{statement}
 use Rattle.truth.proofs.structure.chain_row.Tie as tie

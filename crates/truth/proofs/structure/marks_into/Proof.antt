@@ -4,7 +4,7 @@ use mathlib.Core.Path.{sym, _∙_}
 use native.Mathlib.Omega.{arith}
 use Rattle.sheets.proofs.Counting.{number}
 use Rattle.truth.specs.Sizes.{membersMost}
-use Rattle.truth.specs.Rows.{rowHas}
+use Rattle.truth.specs.inner.Rows.{rowHas}
 use Rattle.truth.proofs.rows.RowLaws.{held-in, none-passes}
 use Rattle.truth.proofs.rows.RowWalks.{none-left, one-left, one-within, less-falls}
 use Rattle.truth.proofs.structure.NotedMarks.{Noted, noted-none, noted-next, noted-is, noted-end, rest-in}

@@ -5,7 +5,7 @@ use native.Mathlib.Omega.{arith}
 use Prim.Native.Nat.{ℕ, _-_, _≤_}
 use Rattle.sheets.specs.Words.{within}
 use Rattle.truth.specs.Sizes.{membersMost}
-use Rattle.truth.specs.Rows.{rowHas}
+use Rattle.truth.specs.inner.Rows.{rowHas}
 use Rattle.truth.proofs.structure.NodeLoops.{sofar, sofar-none, sofar-yes}
 use Rattle.truth.proofs.structure.node_row.Statement.{statement}
 use Rattle.truth.proofs.structure.node_row.Tie as tie

@@ -4,7 +4,7 @@ use Prim.Native.Nat.{ℕ, _-_, _≤_}
 use native.Mathlib.Omega.{arith}
 use lib.ListN.{length}
 use Rattle.truth.specs.Sizes.{tableWords}
-use Rattle.truth.specs.Rows.{rowHas, rowsHas}
+use Rattle.truth.specs.inner.Rows.{rowHas, rowsHas}
 use Rattle.truth.proofs.structure.EdgesAdded.{Earlier, earlier-none, earlier-next}
 use Rattle.truth.proofs.structure.predecessors.Statement.{statement}
 use Rattle.truth.proofs.structure.predecessors.Tie as tie

@@ -3,7 +3,7 @@ use mathlib.Core.Path.{_≡_, sym, _∙_}
 use native.Mathlib.Omega.{arith}
 use Prim.Native.Nat.{ℕ, _-_, _≤_}
 use Rattle.sheets.specs.Machine.{nodes, signalAt}
-use Rattle.truth.specs.Rows.{rowHas}
+use Rattle.truth.specs.inner.Rows.{rowHas}
 use Rattle.truth.proofs.structure.NodeLoops.{sofar, sofar-none, sofar-no, sofar-yes}
 use Rattle.truth.proofs.structure.signal_row.Statement.{statement}
 use Rattle.truth.proofs.structure.signal_row.Tie as tie

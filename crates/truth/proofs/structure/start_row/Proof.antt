@@ -5,7 +5,7 @@ use native.Mathlib.Omega.{arith}
 use Prim.Native.Nat.{ℕ, _-_, _≤_}
 use lib.Dec.{eqb}
 use Rattle.sheets.specs.Machine.{nodes, startFlag}
-use Rattle.truth.specs.Rows.{rowHas}
+use Rattle.truth.specs.inner.Rows.{rowHas}
 use Rattle.truth.proofs.structure.NodeLoops.{sofar, sofar-none, sofar-no, sofar-yes}
 use Rattle.truth.proofs.structure.start_row.Statement.{statement}
 use Rattle.truth.proofs.structure.start_row.Tie as tie

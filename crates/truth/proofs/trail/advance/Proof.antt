@@ -1,7 +1,7 @@
 -- `advance` meets its contract: a pair of the lasting set has a step into it, and any other pair of `ys` one to an earlier time.
 use mathlib.Core.Path.{_≡_, refl, sym, _∙_}
 use native.Mathlib.Omega.{arith}
-use Rattle.truth.specs.Rows.{rowsHas}
+use Rattle.truth.specs.inner.Rows.{rowsHas}
 use Rattle.truth.proofs.tables.TableLaws.{loaded}
 use Rattle.truth.proofs.trail.TrailTurns.{in-places, goes-onward, goes-sooner, advances-onward, advances-sooner}
 use Rattle.truth.proofs.trail.advance.Statement.{statement}

@@ -4,8 +4,8 @@ use borrow.Author.Tests.{lt-ltb, le-ltb}
 use lib.Dec.{ltb}
 use Rattle.sheets.proofs.Counting.{number}
 use Rattle.truth.specs.Sizes.{membersMost}
-use Rattle.truth.specs.Rows.{rowHas}
-use Rattle.truth.specs.Pairs.{timeOf}
+use Rattle.truth.specs.inner.Rows.{rowHas}
+use Rattle.truth.specs.inner.Pairs.{timeOf}
 use Rattle.truth.proofs.rows.RowWalks.{one-left, one-within, less-falls}
 use Rattle.truth.proofs.trail.StepSearch.{Left, left-all, left-none, left-found, left-out}
 use Rattle.truth.proofs.trail.earlier.Statement.{statement}

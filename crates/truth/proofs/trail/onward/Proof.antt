@@ -4,8 +4,8 @@ use Prim.Native.Nat.{ℕ, _-_}
 use native.Mathlib.Omega.{arith}
 use mathlib.Core.Bool.{_&&_}
 use lib.Dec.{T}
-use Rattle.truth.specs.Rows.{rowHas, rowsHas}
-use Rattle.truth.specs.Pairs.{edgeIn}
+use Rattle.truth.specs.inner.Rows.{rowHas, rowsHas}
+use Rattle.truth.specs.inner.Pairs.{edgeIn}
 use Rattle.truth.proofs.trail.StepSearch.{NoneBelow, none-first, none-next, not-allowed, leads-to, led-to}
 use Rattle.truth.proofs.trail.onward.Statement.{statement}
 use Rattle.truth.proofs.trail.onward.Tie as tie

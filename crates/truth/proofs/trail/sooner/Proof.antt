@@ -6,8 +6,8 @@ use mathlib.Core.Bool.{_&&_}
 use mathlib.Core.List.{List}
 use lib.Dec.{T, ltb, ltb→lt, lt→ltb}
 use Rattle.sheets.proofs.Tests.{and-left, and-right, and-both}
-use Rattle.truth.specs.Rows.{rowHas, rowsHas}
-use Rattle.truth.specs.Pairs.{timeOf}
+use Rattle.truth.specs.inner.Rows.{rowHas, rowsHas}
+use Rattle.truth.specs.inner.Pairs.{timeOf}
 use Rattle.truth.proofs.trail.StepSearch.{NoneBelow, none-first, none-next, not-allowed, leads-to, led-to}
 use Rattle.truth.proofs.trail.sooner.Statement.{statement}
 use Rattle.truth.proofs.trail.sooner.Tie as tie

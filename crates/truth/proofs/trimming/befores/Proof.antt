@@ -6,8 +6,8 @@ use Prim.Native.Nat.{ℕ, _≤_, _-_}
 use native.Mathlib.Omega.{arith}
 use lib.Dec.{T}
 use Rattle.truth.specs.Sizes.{setWords}
-use Rattle.truth.specs.Rows.{rowHas, rowsHas}
-use Rattle.truth.specs.Pairs.{Before}
+use Rattle.truth.specs.inner.Rows.{rowHas, rowsHas}
+use Rattle.truth.specs.inner.Pairs.{Before}
 use Rattle.truth.proofs.rows.RowLaws.{held-in}
 use Rattle.truth.proofs.tables.TableLaws.{Filled, filled-none, filled-more}
 use Rattle.truth.proofs.trimming.befores.Statement.{statement}

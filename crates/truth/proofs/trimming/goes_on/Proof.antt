@@ -3,7 +3,7 @@ use Prim.Native.Nat.{_-_, _≤_}
 use native.Mathlib.Omega.{arith}
 use Rattle.sheets.proofs.Counting.{number}
 use Rattle.truth.specs.Sizes.{positionsMost, membersMost}
-use Rattle.truth.specs.Rows.{rowHas}
+use Rattle.truth.specs.inner.Rows.{rowHas}
 use Rattle.truth.proofs.rows.RowWalks.{none-left, one-left, one-within, less-falls}
 use Rattle.truth.proofs.trimming.TrimSteps.{Passing, passing-none, passing-next, passing-end}
 use Rattle.truth.proofs.trimming.goes_on.Statement.{statement}

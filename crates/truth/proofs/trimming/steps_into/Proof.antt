@@ -3,7 +3,7 @@ use Prim.Native.Nat.{_-_, _≤_}
 use native.Mathlib.Omega.{arith}
 use Rattle.sheets.proofs.Counting.{number}
 use Rattle.truth.specs.Sizes.{positionsMost, membersMost}
-use Rattle.truth.specs.Rows.{rowHas}
+use Rattle.truth.specs.inner.Rows.{rowHas}
 use Rattle.truth.proofs.rows.RowWalks.{none-left, one-left, one-within, less-falls, Visited, visited-none, visited-next, visited-end}
 use Rattle.truth.proofs.trimming.TrimSteps.{Meeting, allowed-not, meeting-yes, meeting-not}
 use Rattle.truth.proofs.trimming.steps_into.Statement.{statement}

@@ -5,8 +5,8 @@ use mathlib.Core.Bool.{true, false}
 use native.Mathlib.Omega.{arith}
 use Rattle.sheets.proofs.Counting.{number}
 use Rattle.truth.specs.Sizes.{membersMost}
-use Rattle.truth.specs.Rows.{rowHas, rowsHas}
-use Rattle.truth.specs.Pairs.{Onward}
+use Rattle.truth.specs.inner.Rows.{rowHas, rowsHas}
+use Rattle.truth.specs.inner.Pairs.{Onward}
 use Rattle.truth.proofs.rows.RowWalks.{none-left, one-left, one-within, less-falls, Sorted, sorted-none, sorted-yes, sorted-no}
 use Rattle.truth.proofs.trimming.TrimSteps.{sorted-stuck}
 use Rattle.truth.proofs.trimming.stuck.Statement.{statement}

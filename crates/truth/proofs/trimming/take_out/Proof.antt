@@ -4,7 +4,7 @@ use Prim.Native.Nat.{ℕ, _+_, _*_, _<_}
 use native.Mathlib.Omega.{arith}
 use mathlib.Core.Bool.{not, _&&_, _||_}
 use lib.ListN.{length}
-use Rattle.truth.specs.Rows.{rowHas, rowsHas}
+use Rattle.truth.specs.inner.Rows.{rowHas, rowsHas}
 use Rattle.truth.proofs.trimming.TrimTaken.{taken}
 use Rattle.truth.proofs.trimming.take_out.Statement.{statement}
 use Rattle.truth.proofs.trimming.take_out.Tie as tie

@@ -5,9 +5,9 @@ use mathlib.Core.Path.{_≡_, refl, _∙_}
 use mathlib.Core.Bool.{Bool, true, false}
 use lib.ListN.{length}
 use Rattle.truth.specs.Sizes.{setWords}
-use Rattle.truth.specs.Rows.{rowsHas}
-use Rattle.truth.specs.Pairs.{weight}
-use Rattle.truth.specs.Trimmed.{Trimmed}
+use Rattle.truth.specs.inner.Rows.{rowsHas}
+use Rattle.truth.specs.inner.Pairs.{weight}
+use Rattle.truth.specs.inner.Trimmed.{Trimmed}
 use Rattle.truth.proofs.tables.TableLaws.{zero-row}
 use Rattle.truth.proofs.trimming.TrimGone.{trimmed-idle}
 use Rattle.truth.proofs.trimming.TrimRounds.{trimmed-yes, trimmed-no, greatest}

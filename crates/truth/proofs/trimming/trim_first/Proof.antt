@@ -5,7 +5,7 @@ use Prim.Native.Nat.{_≤_, _-_}
 use native.Mathlib.Omega.{arith}
 use lib.ListN.{length}
 use Rattle.truth.specs.Sizes.{setWords}
-use Rattle.truth.specs.Trimmed.{Started}
+use Rattle.truth.specs.inner.Trimmed.{Started}
 use Rattle.truth.proofs.trimming.TrimStart.{started-none}
 use Rattle.truth.proofs.trimming.trim_first.Statement.{statement}
 use Rattle.truth.proofs.trimming.trim_first.Tie as tie

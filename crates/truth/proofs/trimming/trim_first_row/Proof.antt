@@ -4,7 +4,7 @@ use Prim.Native.Nat.{ℕ}
 use mathlib.Core.Bool.{not, _&&_}
 use native.Mathlib.Omega.{arith}
 use Rattle.truth.specs.Sizes.{cell}
-use Rattle.truth.specs.Rows.{rowHas, rowsHas}
+use Rattle.truth.specs.inner.Rows.{rowHas, rowsHas}
 use Rattle.truth.proofs.tables.LinkedSets.{among-below, below-among}
 use Rattle.truth.proofs.trimming.TrimSteps.{Through}
 use Rattle.truth.proofs.trimming.TrimStart.{started-next}

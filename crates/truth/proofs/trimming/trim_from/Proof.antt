@@ -7,8 +7,8 @@ use mathlib.Core.Bool.{true, false, not, true≢false}
 use lib.Dec.{T}
 use Rattle.sheets.specs.Words.{each}
 use Rattle.truth.specs.Sizes.{membersMost}
-use Rattle.truth.specs.Rows.{rowHas, rowsHas}
-use Rattle.truth.specs.Pairs.{Before, Cleared}
+use Rattle.truth.specs.inner.Rows.{rowHas, rowsHas}
+use Rattle.truth.specs.inner.Pairs.{Before, Cleared}
 use Rattle.truth.proofs.rows.RowLaws.{held-in, none-passes}
 use Rattle.truth.proofs.tables.TableLaws.{emptied}
 use Rattle.truth.proofs.trimming.TrimGone.{trimmed-idle, trimmed-row}

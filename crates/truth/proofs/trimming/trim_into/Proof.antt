@@ -3,8 +3,8 @@ use Prim.Native.Nat.{_-_, _≤_}
 use native.Mathlib.Omega.{arith}
 use Rattle.sheets.proofs.Counting.{number}
 use Rattle.truth.specs.Sizes.{membersMost}
-use Rattle.truth.specs.Rows.{rowHas}
-use Rattle.truth.specs.Trimmed.{Moved, OwingTo}
+use Rattle.truth.specs.inner.Rows.{rowHas}
+use Rattle.truth.specs.inner.Trimmed.{Moved, OwingTo}
 use Rattle.truth.proofs.rows.RowWalks.{none-left, one-left, one-within, less-falls, Visited, visited-none, visited-next, visited-end}
 use Rattle.truth.proofs.trimming.TrimMoves.{moved-none, moved-more, owing-still}
 use Rattle.truth.proofs.trimming.trim_into.Statement.{statement}

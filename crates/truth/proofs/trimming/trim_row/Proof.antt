@@ -1,7 +1,7 @@
 -- `trim_row` meets its contract: of the nodes that were looked at, those that stay have a step into what is left or gone.
 use mathlib.Core.Path.{sym, _∙_}
 use native.Mathlib.Omega.{arith}
-use Rattle.truth.specs.Rows.{rowHas}
+use Rattle.truth.specs.inner.Rows.{rowHas}
 use Rattle.truth.proofs.trimming.TrimMoves.{Looked, moved-none, look-allowed, none-looked, row-moved, row-owing}
 use Rattle.truth.proofs.trimming.trim_row.Statement.{statement}
 use Rattle.truth.proofs.trimming.trim_row.Tie as tie

@@ -1,6 +1,6 @@
 -- `difference` meets its contract: what it takes out is a complement.
 use mathlib.Core.Path.{_∙_}
-use Rattle.truth.specs.Rows.{rowHas}
+use Rattle.truth.specs.inner.Rows.{rowHas}
 use Rattle.truth.proofs.rows.RowSets.{minus}
 use native.Mathlib.Omega.{arith}
 use Rattle.truth.proofs.rows.Row.difference.Statement.{statement}

@@ -9,7 +9,7 @@ use lib.ListN.{length, getD}
 use lib.Dec.{T, eqb, leb}
 use Rattle.sheets.specs.Words.{within, indicator, sum}
 use Rattle.truth.specs.Sizes.{membersMost, cell, pairsMost, pairAt}
-use Rattle.truth.specs.Rows.{rowsHas}
+use Rattle.truth.specs.inner.Rows.{rowsHas}
 
 -- an edge leads from s to s′, in a table that has the successors of node s at row s - 1
 abbrev pub edgeIn : List ℕ → ℕ → ℕ → Bool

@@ -10,11 +10,11 @@ use lib.Dec.{T}
 use Rattle.sheets.specs.Words.{bit}
 use Rattle.sheets.specs.Structures.{Automaton}
 use Rattle.sheets.specs.Rules.{lent, lineWord}
-use Rattle.sheets.specs.Lines.{arguments}
+use Rattle.sheets.specs.inner.Lines.{arguments}
 use Rattle.sheets.specs.declared.lines.PathLine.{PathLine}
 use Rattle.truth.specs.Sizes.{positionsMost, rowWords, cell}
-use Rattle.truth.specs.Rows.{rowsHas}
-use Rattle.truth.specs.Links.{Into, Onto}
+use Rattle.truth.specs.inner.Rows.{rowsHas}
+use Rattle.truth.specs.inner.Links.{Into, Onto}
 
 unfoldable pub same : Bool → Bool → Bool
 same true b = b

@@ -8,8 +8,8 @@ use mathlib.Core.Bool.{Bool, true, false, not, _&&_, _||_}
 use lib.ListN.{length}
 use lib.Dec.{T}
 use Rattle.truth.specs.Sizes.{cell}
-use Rattle.truth.specs.Rows.{rowsHas}
-use Rattle.truth.specs.Pairs.{PairStep, UpTo, Transposed, Before, Onward, Lasts, Inside, weight}
+use Rattle.truth.specs.inner.Rows.{rowsHas}
+use Rattle.truth.specs.inner.Pairs.{PairStep, UpTo, Transposed, Before, Onward, Lasts, Inside, weight}
 
 -- some number below t
 abbrev pub SomeBelow : ℕ → (ℕ → Type 0) → Type 0

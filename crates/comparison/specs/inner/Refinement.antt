@@ -5,8 +5,8 @@ use Prim.Native.Nat.{ℕ, _+_, _≤_, _<_}
 use mathlib.Core.List.{List}
 use mathlib.Core.Bool.{Bool, not, _&&_}
 use lib.ListN.{length}
-use Rattle.comparison.specs.Lines.{Entry, Downward}
-use Rattle.comparison.specs.Blocks.{Exact, Members, Covers, Disjoint, Inhabited}
+use Rattle.comparison.specs.inner.Lines.{Entry, Downward}
+use Rattle.comparison.specs.inner.Blocks.{Exact, Members, Covers, Disjoint, Inhabited}
 
 -- of one machine: the blocks are disjoint, cover the nodes, and have their lines
 pub record Refined (M : List ℕ) (ls : List Entry) (count : ℕ) (line : ℕ → ℕ) (mem : Members) : Type 0 where

@@ -6,8 +6,8 @@ use mathlib.Core.List.{List}
 use lib.ListN.{length, getD, set}
 use lib.Dec.{T}
 use Rattle.truth.specs.Passed.{kripke, nodes, machineRefusal}
-use Rattle.comparison.specs.Lines.{Entry, sig, neg, alt, next, entry, Downward, HoldsLines}
-use Rattle.comparison.specs.Blocks.{TrueIn}
+use Rattle.comparison.specs.inner.Lines.{Entry, sig, neg, alt, next, entry, Downward, HoldsLines}
+use Rattle.comparison.specs.inner.Blocks.{TrueIn}
 use Rattle.comparison.specs.declared.needed.Line.{Line}
 use Rattle.comparison.specs.declared.needed.Line.the-variants.{Signal, Not, Or, Next}
 

@@ -8,8 +8,8 @@ use mathlib.Core.Bool.{Bool, not, _&&_, _||_}
 use lib.ListN.{length}
 use lib.Dec.{T, ltb}
 use Rattle.truth.specs.Sizes.{membersMost, tableRows, cell}
-use Rattle.truth.specs.Rows.{rowsHas}
-use Rattle.truth.specs.Pairs.{PairStep, UpTo, Transposed, Before, Cleared, Reaches, timeOf, Timed, Sooner, weight}
+use Rattle.truth.specs.inner.Rows.{rowsHas}
+use Rattle.truth.specs.inner.Pairs.{PairStep, UpTo, Transposed, Before, Cleared, Reaches, timeOf, Timed, Sooner, weight}
 
 -- ---- what changes
 

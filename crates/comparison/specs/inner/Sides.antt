@@ -3,7 +3,7 @@ use mathlib.Core.Path.{_≡_}
 use mathlib.Core.Logic.{_↔_}
 use Prim.Native.Nat.{ℕ, _-_, _≤_, _<_}
 use mathlib.Core.List.{List}
-use Rattle.comparison.specs.Blocks.{Members, HasStart, OneStart}
+use Rattle.comparison.specs.inner.Blocks.{Members, HasStart, OneStart}
 
 -- r is the number, from 1, of a block with a start node of one machine only, or 0 where each block has one of both or of neither
 pub record OneSided (M₁ M₂ : List ℕ) (m₁ m₂ : Members) (count r : ℕ) : Type 0 where

@@ -8,7 +8,7 @@ use mathlib.Core.Bool.{Bool, not}
 use lib.Dec.{T}
 use Rattle.truth.specs.Passed.{kripke, nodes, lifted, lineWords}
 use Rattle.truth.specs.Truth.{Truths, TrueAt}
-use Rattle.comparison.specs.Lines.{Entry, sheet}
+use Rattle.comparison.specs.inner.Lines.{Entry, sheet}
 
 -- the truths of a list of lines
 abbrev pub TrueIn : List ℕ → List Entry → Truths

@@ -6,11 +6,11 @@ use mathlib.Core.List.{List}
 use mathlib.Core.Bool.{Bool, true, not}
 use lib.ListN.{length, getD}
 use lib.Dec.{T}
-use Rattle.truth.specs.Rows.{rowHas, marksInto}
-use Rattle.comparison.specs.Sizes.{nodePlaces}
-use Rattle.comparison.specs.Blocks.{Members, Unsplit, Split}
-use Rattle.comparison.specs.Tables.{State, firstOf, secondOf, OfNodes}
-use Rattle.comparison.specs.Stages.{Staged, Finer, NextsDone}
+use Rattle.truth.specs.inner.Rows.{rowHas, marksInto}
+use Rattle.comparison.specs.inner.Sizes.{nodePlaces}
+use Rattle.comparison.specs.inner.Blocks.{Members, Unsplit, Split}
+use Rattle.comparison.specs.inner.Tables.{State, firstOf, secondOf, OfNodes}
+use Rattle.comparison.specs.inner.Stages.{Staged, Finer, NextsDone}
 use Rattle.comparison.specs.declared.signatures.Lead.{Lead}
 
 -- ---- marks on nodes

@@ -7,8 +7,8 @@ use lib.ListN.{getD}
 use lib.Dec.{T}
 use Rattle.sheets.specs.Format.{nodesMost}
 use Rattle.truth.specs.Sizes.{positionsMost, tableRows}
-use Rattle.truth.specs.Rows.{rowsHas}
-use Rattle.truth.specs.Pairs.{PairStep, UpTo, timeOf, Timed, Least, Lasts}
+use Rattle.truth.specs.inner.Rows.{rowsHas}
+use Rattle.truth.specs.inner.Pairs.{PairStep, UpTo, timeOf, Timed, Least, Lasts}
 
 -- Places 1 to `len`, with the pair at place i; from `back` on all pairs are in `xs`, and no pair is there twice.
 pub record Looped (allow next : List ℕ) (t n : ℕ) (xs : List ℕ) (s : ℕ) (node position : ℕ → ℕ) (len back : ℕ) : Type 0 where

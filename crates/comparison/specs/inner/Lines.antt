@@ -4,7 +4,7 @@ use Prim.Native.Nat.{ℕ, zero, suc, _+_, _-_, _*_, _≤_, _<_}
 use mathlib.Core.List.{List, [], _∷_, _++_}
 use lib.ListN.{length, getD, take}
 use Rattle.truth.specs.Passed.{signalsMost, lineWords, signalOperation, negationOperation, eitherOperation, somePathOperation}
-use Rattle.comparison.specs.Sizes.{writtenSpace}
+use Rattle.comparison.specs.inner.Sizes.{writtenSpace}
 use Rattle.comparison.specs.Comparison.{nextWords, ruleHead}
 
 -- signal i; not line j; line i or line j; some next node has line j

@@ -15,8 +15,8 @@ use Rattle.sheets.specs.Positioned.{positioned}
 use Rattle.sheets.specs.declared.position.ByPosition.{ByPosition}
 use Rattle.truth.specs.Sizes.{membersMost, rowWords}
 use Rattle.truth.specs.Truth.{Means, SomePath}
-use Rattle.truth.specs.Product.{good, Refers, Allowed, GoodRows}
-use Rattle.truth.specs.Pairs.{edgeIn, Transposed, Greatest, Least}
+use Rattle.truth.specs.inner.Product.{good, Refers, Allowed, GoodRows}
+use Rattle.truth.specs.inner.Pairs.{edgeIn, Transposed, Greatest, Least}
 use Rattle.truth.specs.Labelling.{rowTruths}
 
 -- row s - 1 of `next` has the successors of node s of M

@@ -7,7 +7,7 @@ use lib.ListN.{length}
 use lib.Dec.{T, eqb}
 use Rattle.sheets.specs.Words.{within}
 use Rattle.truth.specs.Sizes.{membersMost, cell, setWords}
-use Rattle.truth.specs.Rows.{rowsHas}
+use Rattle.truth.specs.inner.Rows.{rowsHas}
 
 -- `after` is `before` with member s more in row k
 pub record Joined (k s : ℕ) (before after : List ℕ) : Type 0 where

@@ -7,9 +7,9 @@ use Rattle.sheets.specs.Rules.{automaton}
 use Rattle.sheets.specs.Positioned.{stateCount}
 use Rattle.truth.specs.Labelling.{rowTruths}
 use Rattle.truth.specs.Lists.{Lasso}
-use Rattle.truth.specs.Product.{good}
-use Rattle.truth.specs.OneLine.{Holds}
-use Rattle.truth.specs.Trails.{placed}
+use Rattle.truth.specs.inner.Product.{good}
+use Rattle.truth.specs.inner.OneLine.{Holds}
+use Rattle.truth.specs.inner.Trails.{placed}
 use Rattle.truth.specs.declared.path.Shown.{Shown}
 use Rattle.truth.specs.declared.path.Shown.the-variants.{Refused, NoPath, Path}
 

@@ -6,13 +6,13 @@ use mathlib.Core.Bool.{Bool}
 use lib.ListN.{length, getD, take}
 use lib.Dec.{T}
 use Rattle.truth.specs.Passed.{kripke, signals, machineRefusal, lineWords, linesWritten}
-use Rattle.truth.specs.Rows.{rowsHas, leadsInto}
-use Rattle.comparison.specs.Sizes.{blockPlaces, blockWords}
-use Rattle.comparison.specs.Bounded.{Bounded}
-use Rattle.comparison.specs.Lines.{Entry, sig, writtenWords, entry, HoldsLines}
-use Rattle.comparison.specs.Blocks.{Exact, Members, Unsplit, Split}
-use Rattle.comparison.specs.Refinement.{Refinement}
-use Rattle.comparison.specs.Tables.{State, firstOf, secondOf, lineOf, OfNodes}
+use Rattle.truth.specs.inner.Rows.{rowsHas, leadsInto}
+use Rattle.comparison.specs.inner.Sizes.{blockPlaces, blockWords}
+use Rattle.comparison.specs.inner.Bounded.{Bounded}
+use Rattle.comparison.specs.inner.Lines.{Entry, sig, writtenWords, entry, HoldsLines}
+use Rattle.comparison.specs.inner.Blocks.{Exact, Members, Unsplit, Split}
+use Rattle.comparison.specs.inner.Refinement.{Refinement}
+use Rattle.comparison.specs.inner.Tables.{State, firstOf, secondOf, lineOf, OfNodes}
 use Rattle.comparison.specs.declared.refine.Partition.{Partition}
 
 -- The blocks refine the nodes of both machines. Their lines are written, below those of the signals, and are few for so many blocks: at

@@ -6,11 +6,11 @@ use mathlib.Core.Bool.{Bool, true, false}
 use lib.ListN.{length, getD}
 use lib.Dec.{T}
 use Rattle.truth.specs.Passed.{nodes, nodesMost}
-use Rattle.truth.specs.Rows.{rowsHas}
-use Rattle.comparison.specs.Sizes.{writtenSpace, writtenMost, blockPlaces, blockWords}
-use Rattle.comparison.specs.Lines.{split, Adds}
-use Rattle.comparison.specs.Blocks.{Members, Meets, Unsplit, Split}
-use Rattle.comparison.specs.Refinement.{Parted, Lined}
+use Rattle.truth.specs.inner.Rows.{rowsHas}
+use Rattle.comparison.specs.inner.Sizes.{writtenSpace, writtenMost, blockPlaces, blockWords}
+use Rattle.comparison.specs.inner.Lines.{split, Adds}
+use Rattle.comparison.specs.inner.Blocks.{Members, Meets, Unsplit, Split}
+use Rattle.comparison.specs.inner.Refinement.{Parted, Lined}
 use Rattle.comparison.specs.declared.blocks.Stand.{Stand}
 
 -- The tables and numbers that refinement works on: row c of `first` and of `second` has the nodes of block c of each machine,

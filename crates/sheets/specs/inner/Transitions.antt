@@ -9,7 +9,7 @@ use lib.Bits.{bitOr}
 use lib.Dec.{leb, ltb, eqb}
 use Rattle.sheets.specs.Format.{chainedMost}
 use Rattle.sheets.specs.Words.{bit, anyOf, howMany}
-use Rattle.sheets.specs.Positions.{someBelow, standsAt}
+use Rattle.sheets.specs.inner.Positions.{someBelow, standsAt}
 use Rattle.sheets.specs.Rules.{transitionsOf, transitionTarget, mask, transitionsFit, leads}
 use Rattle.sheets.specs.declared.words.Step.{Step}
 use Rattle.sheets.specs.declared.words.Step.the-variants.{Record, End}
