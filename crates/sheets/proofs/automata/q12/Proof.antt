@@ -39,9 +39,9 @@ loop-less c = search needs
 
 loop-again : tie.Need-loop-again Inv-loop μ-loop
 loop-again c =
-    let turn = c .before .before in
+    let at-start : tie.Start Inv-loop μ-loop = search in let turn = c .before .before in
     let yes = sym (c .before .automaton-fits .ensures) ∙ not-false _ (c .if1 .left) in
-    each-goes (automatonFits lent (turn .before .before .before .before .args .r .now)) (turn .loop-test .taken) (turn .before .loop .inv) yes
+    each-goes (automatonFits lent (at-start .args .r .now)) (turn .loop-test .taken) (turn .before .loop .inv) yes
 
 returns-2 : tie.Need-returns-2 Inv-loop μ-loop
 unfolding q12

@@ -26,7 +26,9 @@ add-x : tie.Need-add-x Inv-loop μ-loop
 add-x c = search needs
 
 automaton-total-requires : tie.Need-automaton-total-requires Inv-loop μ-loop
-automaton-total-requires c κs = few-variables _ _ (c .before .before .before .before .pre) (omega arith) (omega (arith, c .before .before .automata .ensures))
+automaton-total-requires c κs =
+    let at-start : tie.Start Inv-loop μ-loop = search in
+    few-variables _ _ (at-start .pre) (omega arith) (omega (arith, c .before .before .automata .ensures))
 
 returns : tie.Need-returns Inv-loop μ-loop
 unfolding q13
@@ -41,9 +43,9 @@ loop-less c = search needs
 
 loop-again : tie.Need-loop-again Inv-loop μ-loop
 loop-again c =
-    let turn = c .before .before in
+    let at-start : tie.Start Inv-loop μ-loop = search in let turn = c .before .before in
     let yes = sym (c .before .automaton-total .ensures) ∙ not-false _ (c .if1 .left) in
-    each-goes (automatonTotal (turn .before .before .before .before .args .r .now)) (turn .loop-test .taken) (turn .before .loop .inv) yes
+    each-goes (automatonTotal (at-start .args .r .now)) (turn .loop-test .taken) (turn .before .loop .inv) yes
 
 returns-2 : tie.Need-returns-2 Inv-loop μ-loop
 unfolding q13

@@ -59,7 +59,9 @@ loop-again c =
 
 returns-2 : tie.Need-returns-2 Inv-loop μ-loop
 unfolding total
-returns-2 c = sym (each-ends _ (one-shifted 16 (c .before .before .before .before .args .v) (omega arith)) (c .loop-test .left) (c .before .loop .inv))
+returns-2 c =
+    let at-start : tie.Start Inv-loop μ-loop = search in
+    sym (each-ends _ (one-shifted 16 (at-start .args .v) (omega arith)) (c .loop-test .left) (c .before .loop .inv))
 
 pub total-spec : {M : Type 1} → statement M
 total-spec =

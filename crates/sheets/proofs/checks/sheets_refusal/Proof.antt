@@ -18,7 +18,7 @@ later M R = ruleQuestions lent R ++ signalQuestion M R
 
 -- the sheets at the place after each part, where what is left of the table decides
 abbrev start1 : tie.Else1 → tie.Start
-start1 c = c .before .before .before .before
+start1 c = search
 
 after-machine : (c : tie.Else1) {n : ℕ} → Finds (later (start1 c .args .m .now) (start1 c .args .r .now)) n → Finds (sheetQuestions (start1 c .args .m .now) (start1 c .args .r .now)) n
 unfolding sheetQuestions machineRefusal
@@ -42,7 +42,7 @@ machine-refusal-requires c κs = search needs
 returns : tie.Need-returns
 unfolding sheetQuestions machineRefusal
 returns c =
-    let a = c .before .before .before .before .args in
+    let at-start : tie.Start = search in let a = at-start .args in
     sym (found (sheetQuestions (a .m .now) (a .r .now))
     (part-returned (machineQuestions 1 (a .m .now)) (later (a .m .now) (a .r .now)) _ (c .before .machine-refusal .ensures) (c .if1 .taken)))
 

@@ -50,8 +50,8 @@ loop-less c = search needs
 loop-again : tie.Need-loop-again Inv-loop μ-loop
 unfolding accepting
 loop-again c =
-    let a = c .before .before .before .before .before .before .args in
-    let at = c .before .before .before .before .loop in
+    let at-loop : tie.At-loop Inv-loop μ-loop = search in let a = at-loop .before .before .args in
+    let at = at-loop .loop in
     (omega arith, λ k. c .with .ensures k ∙ upTo-yes (test (a .r .now) (a .t2)) k _ _ (at .inv .1 k) (eq-eqb _ 1 (sym (c .before .before .state-word .ensures) ∙ c .before .if1 .taken)))
 
 loop-less-2 : tie.Need-loop-less-2 Inv-loop μ-loop
@@ -60,7 +60,7 @@ loop-less-2 c = search needs
 loop-again-2 : tie.Need-loop-again-2 Inv-loop μ-loop
 unfolding accepting
 loop-again-2 c =
-    let a = c .before .before .before .before .before .args in
+    let at-start : tie.Start Inv-loop μ-loop = search in let a = at-start .args in
     let at = c .before .before .before .loop in
     (omega arith, λ k. upTo-no (test (a .r .now) (a .t2)) k _ _ (at .inv .1 k) (ne-eqb _ 1 (λ e. c .if1 .left (c .before .state-word .ensures ∙ e))))
 

@@ -27,7 +27,7 @@ mixes-some-requires c κs = search needs
 
 returns : tie.Need-returns Inv-loop μ-loop
 returns c =
-    let a = c .before .before .before .before .args in
+    let at-start : tie.Start Inv-loop μ-loop = search in let a = at-start .args in
     sym (some-met (test (a .set) (a .reach) (a .n)) (a .n) (c .before .before .before .loop .p) (omega arith) (sym (c .before .mixes-some .ensures) ∙ c .if1 .taken))
 
 add-p : tie.Need-add-p Inv-loop μ-loop
@@ -38,7 +38,7 @@ loop-less c = search needs
 
 loop-again : tie.Need-loop-again Inv-loop μ-loop
 loop-again c =
-    let a = c .before .before .before .before .args in
+    let at-start : tie.Start Inv-loop μ-loop = search in let a = at-start .args in
     (omega arith, some-next (test (a .set) (a .reach) (a .n)) (c .before .before .before .loop .p) (c .before .before .before .loop .inv .1) (sym (c .before .mixes-some .ensures) ∙ c .if1 .left))
 
 returns-2 : tie.Need-returns-2 Inv-loop μ-loop

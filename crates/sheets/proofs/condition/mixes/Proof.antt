@@ -32,8 +32,9 @@ bit-requires-3 c κs = search needs
 
 returns-3 : tie.Need-returns-3
 returns-3 c =
+    let else1 : tie.Else1 = search in
     rw (
-      sym (c .before .before .before .before .before .bit .ensures) ∙ not-false (c .before .before .before .before .before .bit .result) (c .before .before .before .before .if1 .left),
+      sym (else1 .before .bit .ensures) ∙ not-false (else1 .before .bit .result) (else1 .if1 .left),
       sym (c .before .before .before .bit2 .ensures) ∙ c .before .before .if2 .left,
       sym (c .before .bit3 .ensures) ∙ not-true (c .before .bit3 .result) (c .if3 .taken),
     )
@@ -49,9 +50,10 @@ bit-requires-4 c κs = search needs
 
 returns-4 : tie.Need-returns-4
 returns-4 c =
+    let after-bit2 : tie.After-bit2 = search in
     rw (
-      sym (c .before .before .before .before .before .before .bit .ensures) ∙ not-false (c .before .before .before .before .before .before .bit .result) (c .before .before .before .before .before .if1 .left),
-      sym (c .before .before .before .before .bit2 .ensures) ∙ c .before .before .before .if2 .left,
+      sym (after-bit2 .before .before .bit .ensures) ∙ not-false (after-bit2 .before .before .bit .result) (after-bit2 .before .if1 .left),
+      sym (after-bit2 .bit2 .ensures) ∙ c .before .before .before .if2 .left,
       sym (c .before .before .bit3 .ensures) ∙ not-false (c .before .before .bit3 .result) (c .before .if3 .left),
     ) (c .bit4 .ensures)
 

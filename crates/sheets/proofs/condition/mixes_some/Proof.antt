@@ -23,7 +23,7 @@ mixes-requires c κs = search needs
 
 returns : tie.Need-returns Inv-loop μ-loop
 returns c =
-    let a = c .before .before .before .before .args in
+    let at-start : tie.Start Inv-loop μ-loop = search in let a = at-start .args in
     sym (some-met (mixing (a .set) (a .reach) (a .p)) (a .n) (c .before .before .before .loop .q) (omega arith) (sym (c .before .mixes .ensures) ∙ c .if1 .taken))
 
 add-q : tie.Need-add-q Inv-loop μ-loop
@@ -34,7 +34,7 @@ loop-less c = search needs
 
 loop-again : tie.Need-loop-again Inv-loop μ-loop
 loop-again c =
-    let a = c .before .before .before .before .args in
+    let at-start : tie.Start Inv-loop μ-loop = search in let a = at-start .args in
     (omega arith, some-next (mixing (a .set) (a .reach) (a .p)) (c .before .before .before .loop .q) (c .before .before .before .loop .inv .1) (sym (c .before .mixes .ensures) ∙ c .if1 .left))
 
 returns-2 : tie.Need-returns-2 Inv-loop μ-loop

@@ -32,7 +32,7 @@ add-x c = search needs
 
 unmixed-requires : tie.Need-unmixed-requires Inv-loop μ-loop
 unmixed-requires c κs =
-    let start = c .before .before .before .before in
+    let start : tie.Start Inv-loop μ-loop = search in
     few-states (start .args .r .now) (c .before .loop .x + 1) (start .pre) (omega arith) (omega (arith, c .before .before .automata .ensures))
 
 returns : tie.Need-returns Inv-loop μ-loop
@@ -48,9 +48,9 @@ loop-less c = search needs
 
 loop-again : tie.Need-loop-again Inv-loop μ-loop
 loop-again c =
-    let turn = c .before .before in
+    let at-start : tie.Start Inv-loop μ-loop = search in let turn = c .before .before in
     let yes = sym (c .before .unmixed .ensures) ∙ not-false _ (c .if1 .left) in
-    each-goes (test (turn .before .before .before .before .args .r .now)) (turn .loop-test .taken) (turn .before .loop .inv) yes
+    each-goes (test (at-start .args .r .now)) (turn .loop-test .taken) (turn .before .loop .inv) yes
 
 returns-2 : tie.Need-returns-2 Inv-loop μ-loop
 unfolding q14

@@ -39,7 +39,7 @@ loop-less c = search needs
 
 loop-again : tie.Need-loop-again Inv-loop μ-loop
 loop-again c =
-    let a = c .before .before .before .before .args in
+    let at-start : tie.Start Inv-loop μ-loop = search in let a = at-start .args in
     let at = c .before .before .before .loop in
     let s = sym (c .before .bit .ensures) ∙ c .if1 .taken in
     (omega arith, λ i. bit-or _ _ i ∙ joined-yes (bit (a .set)) (λ j. inRow (a .t1) j i) (bit (a .set) i) _ _ (at .inv .1 i) s)
@@ -49,7 +49,7 @@ loop-less-2 c = search needs
 
 loop-again-2 : tie.Need-loop-again-2 Inv-loop μ-loop
 loop-again-2 c =
-    let a = c .before .before .before .before .args in
+    let at-start : tie.Start Inv-loop μ-loop = search in let a = at-start .args in
     let at = c .before .before .before .loop in
     let s = sym (c .before .bit .ensures) ∙ c .if1 .left in
     (omega arith, λ i. joined-no (bit (a .set)) (λ j. inRow (a .t1) j i) (bit (a .set) i) _ _ (at .inv .1 i) s)

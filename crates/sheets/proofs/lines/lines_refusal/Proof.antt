@@ -40,8 +40,8 @@ loop-less c = search needs
 
 loop-again : tie.Need-loop-again Inv-loop μ-loop
 loop-again c =
-    let turn = c .before .before .before in
-    let r = turn .before .before .before .before .args .r .now in
+    let at-start : tie.Start Inv-loop μ-loop = search in let turn = c .before .before .before in
+    let r = at-start .args .r .now in
     each-goes (test r) (turn .loop-test .taken) (turn .before .loop .inv)
     (formed-fits r _ _ (sym (c .before .before .decode .ensures) ∙ c .enum-told .given .1))
 

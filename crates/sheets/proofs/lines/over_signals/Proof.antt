@@ -58,8 +58,7 @@ returns-2 : tie.Need-returns-2 Inv-loop μ-loop
 unfolding overSignals
 returns-2 c =
     let told = c .before .before in
-    let turn = told .before .before .before .before in
-    let read = turn .before .before in
+    let turn : tie.In-loop Inv-loop μ-loop = search in let read = turn .before .before in
     let args = read .before .before .args in
     let most = most-decoded (args .r .now) _ (args .a) _ (sym (told .before .before .before .decode .ensures) ∙ told .before .decoded .given .1) in
     sym (each-stops (test (args .r .now) (args .a)) (read .lines .ensures) (turn .loop-test .taken) (sym most ∙ sym (c .before .signal-most .ensures) ∙ not-true _ (c .if1 .taken)))
@@ -70,8 +69,7 @@ loop-less c = search needs
 loop-again : tie.Need-loop-again Inv-loop μ-loop
 loop-again c =
     let told = c .before .before in
-    let turn = told .before .before .before .before in
-    let read = turn .before .before in
+    let turn : tie.In-loop Inv-loop μ-loop = search in let read = turn .before .before in
     let args = read .before .before .args in
     let most = most-decoded (args .r .now) _ (args .a) _ (sym (told .before .before .before .decode .ensures) ∙ told .before .decoded .given .1) in
     each-goes (test (args .r .now) (args .a)) (turn .loop-test .taken) (turn .before .loop .inv) (sym most ∙ sym (c .before .signal-most .ensures) ∙ not-false _ (c .if1 .left))

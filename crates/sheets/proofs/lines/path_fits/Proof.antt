@@ -17,7 +17,7 @@ within-requires c κs = search needs
 
 returns : tie.Need-returns
 returns c =
-    let a = c .before .before .before .before .before .args in
+    let at-start : tie.Start = search in let a = at-start .args in
     no-automaton (a .r .now) (a .j) _ (c .before .before .before .line-word .ensures) (rw (c .before .before .automata .ensures) at (sym (c .before .within .ensures) ∙ not-true _ (c .if1 .taken)))
 
 variables-requires : tie.Need-variables-requires
@@ -25,8 +25,8 @@ variables-requires c κs = search needs
 
 returns-2 : tie.Need-returns-2
 returns-2 c =
-    let a = c .before .before .before .before .before .before .before .args in
-    too-many (a .r .now) (a .j) _ (c .before .before .before .before .before .line-word .ensures) _ (c .before .variables .ensures) (c .if2 .taken)
+    let after-line-word : tie.After-line-word = search in let a = after-line-word .before .before .args in
+    too-many (a .r .now) (a .j) _ (after-line-word .line-word .ensures) _ (c .before .variables .ensures) (c .if2 .taken)
 
 refers-above-requires : tie.Need-refers-above-requires
 refers-above-requires c κs = search needs
@@ -39,15 +39,16 @@ unused-requires c κs = search needs
 
 returns-3 : tie.Need-returns-3
 returns-3 c =
-    let a = c .before .before .before .before .before .before .before .before .before .before .args in
-    let w = rw (c .before .before .before .before .before .before .before .automata .ensures) at (sym (c .before .before .before .before .before .before .within .ensures) ∙ not-false _ (c .before .before .before .before .before .if1 .left)) in
-    c .unused .ensures ∙ as-rest (a .r .now) (a .j) _ (c .before .before .before .before .before .before .before .before .line-word .ensures) _ (c .before .before .before .before .variables .ensures) w (sym (c .before .before .refers-above .ensures) ∙ c .before .if3 .taken)
+    let at-start : tie.Start = search in let after-automata : tie.After-automata = search in
+    let after-variables : tie.After-variables = search in let a = at-start .args in
+    let w = rw (after-automata .automata .ensures) at (sym (after-variables .before .before .within .ensures) ∙ not-false _ (after-variables .before .if1 .left)) in
+    c .unused .ensures ∙ as-rest (a .r .now) (a .j) _ (after-automata .before .line-word .ensures) _ (after-variables .variables .ensures) w (sym (c .before .before .refers-above .ensures) ∙ c .before .if3 .taken)
 
 returns-4 : tie.Need-returns-4
 returns-4 c =
-    let a = c .before .before .before .before .before .before .before .before .before .args in
-    let w = rw (c .before .before .before .before .before .before .automata .ensures) at (sym (c .before .before .before .before .before .within .ensures) ∙ not-false _ (c .before .before .before .before .if1 .left)) in
-    c .if3 .left ∙ no-lines (a .r .now) (a .j) _ (c .before .before .before .before .before .before .before .line-word .ensures) _ (c .before .before .before .variables .ensures) w (sym (c .before .refers-above .ensures) ∙ c .if3 .left)
+    let after-line-word : tie.After-line-word = search in let else1 : tie.Else1 = search in let a = after-line-word .before .before .args in
+    let w = rw (else1 .before .before .automata .ensures) at (sym (else1 .before .within .ensures) ∙ not-false _ (else1 .if1 .left)) in
+    c .if3 .left ∙ no-lines (a .r .now) (a .j) _ (after-line-word .line-word .ensures) _ (c .before .before .before .variables .ensures) w (sym (c .before .refers-above .ensures) ∙ c .if3 .left)
 
 pub path-fits-spec : {M : Type 1} → statement M
 path-fits-spec =

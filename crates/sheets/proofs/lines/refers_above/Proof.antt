@@ -36,7 +36,7 @@ line-word-requires c κs = search needs
 returns : tie.Need-returns Inv-loop μ-loop
 unfolding refersAbove
 returns c =
-    let a = c .before .before .before .before .before .args in
+    let at-start : tie.Start Inv-loop μ-loop = search in let a = at-start .args in
     let i = c .before .before .before .loop .i + 1 in
     let w = lineWord lent (a .r .now) (a .j) (a .c + i) in
     let e : w ≡ 0 = sym (c .before .line-word .ensures) ∙ c .if1 .taken in
@@ -46,8 +46,8 @@ returns c =
 returns-2 : tie.Need-returns-2 Inv-loop μ-loop
 unfolding refersAbove
 returns-2 c =
-    let a = c .before .before .before .before .before .before .args in
-    let i = c .before .before .before .before .loop .i + 1 in
+    let at-loop : tie.At-loop Inv-loop μ-loop = search in let a = at-loop .before .before .args in
+    let i = at-loop .loop .i + 1 in
     let w = lineWord lent (a .r .now) (a .j) (a .c + i) in
     let f = outside 1 (a .j - 1) w (λ l h. omega (arith, c .before .before .line-word .ensures)) in
     sym (each-stops (test (a .r .now) (a .j) (a .c)) refl (c .before .before .before .loop-test .taken) f)
@@ -57,12 +57,12 @@ loop-less c = search needs
 
 loop-again : tie.Need-loop-again Inv-loop μ-loop
 loop-again c =
-    let a = c .before .before .before .before .before .before .args in
-    let i = c .before .before .before .before .loop .i + 1 in
+    let at-loop : tie.At-loop Inv-loop μ-loop = search in let a = at-loop .before .before .args in
+    let i = at-loop .loop .i + 1 in
     let w = lineWord lent (a .r .now) (a .j) (a .c + i) in
     let e = c .before .before .line-word .ensures in
     let f = inside 1 (a .j - 1) w (omega (arith, c .before .if1 .left)) (omega arith) in
-    each-goes (test (a .r .now) (a .j) (a .c)) (c .before .before .before .loop-test .taken) (c .before .before .before .before .loop .inv) f
+    each-goes (test (a .r .now) (a .j) (a .c)) (c .before .before .before .loop-test .taken) (at-loop .loop .inv) f
 
 returns-3 : tie.Need-returns-3 Inv-loop μ-loop
 unfolding refersAbove

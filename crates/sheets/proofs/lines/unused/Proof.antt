@@ -37,10 +37,10 @@ line-word-requires c κs = search needs
 returns-2 : tie.Need-returns-2 Inv-loop μ-loop
 unfolding unused lent
 returns-2 c =
-    let a = c .before .before .before .before .before .before .args in
+    let else1 : tie.Else1 Inv-loop μ-loop = search in let a = else1 .before .before .args in
     let k = c .before .before .before .loop .k in
     let f : zeroAt (a .r .now) (a .j) k ≡ false = rw (c .before .line-word .ensures) at (ne-eqb _ 0 (c .if2 .taken)) in
-    simp (le-leb _ 6 (c .before .before .before .before .if1 .left), offset-broken (zeroAt (a .r .now) (a .j)) (a .c) 6 k (omega arith) (omega arith) f)
+    simp (le-leb _ 6 (else1 .if1 .left), offset-broken (zeroAt (a .r .now) (a .j)) (a .c) 6 k (omega arith) (omega arith) f)
 
 add-k : tie.Need-add-k Inv-loop μ-loop
 add-k c = search needs
@@ -50,7 +50,7 @@ loop-less c = search needs
 
 loop-again : tie.Need-loop-again Inv-loop μ-loop
 loop-again c =
-    let a = c .before .before .before .before .before .before .args in
+    let at-start : tie.Start Inv-loop μ-loop = search in let a = at-start .args in
     let k = c .before .before .before .loop .k in
     let f : zeroAt (a .r .now) (a .j) k ≡ true = rw (c .before .line-word .ensures) at (eq-eqb _ 0 (c .if2 .left)) in
     (omega arith, omega arith, offset-next (zeroAt (a .r .now) (a .j)) (a .c) k (omega arith) (c .before .before .before .loop .inv .2) f)

@@ -46,8 +46,8 @@ loop-less c = search needs
 
 loop-again : tie.Need-loop-again Inv-loop μ-loop
 loop-again c =
-    let turn = c .before .before in
-    let args = turn .before .before .before .before .args in
+    let at-start : tie.Start Inv-loop μ-loop = search in let turn = c .before .before in
+    let args = at-start .args in
     each-goes (test (args .f) (args .m .now)) (turn .loop-test .taken) (turn .before .loop .inv) (eq-eqb _ 0 (sym (c .before .node-word .ensures) ∙ c .if1 .left))
 
 returns-2 : tie.Need-returns-2 Inv-loop μ-loop

@@ -16,7 +16,7 @@ bit-requires c κs = search needs
 returns : tie.Need-returns
 unfolding signalAt
 returns c =
-    let z : c .before .before .before .before .args .i - 1 ≡ 0 = omega arith in
+    let at-start : tie.Start = search in let z : at-start .args .i - 1 ≡ 0 = omega arith in
     rw (z, ← (c .before .before .node-word .ensures)) (c .bit .ensures)
 
 sub-bit : tie.Need-sub-bit

@@ -41,9 +41,9 @@ loop-less c = search needs
 
 loop-again : tie.Need-loop-again Inv-loop μ-loop
 loop-again c =
-    let read = c .before .before .before in
+    let at-start : tie.Start Inv-loop μ-loop = search in let read = c .before .before .before in
     let at = read .before .before .loop in
-    let a = read .before .before .before .before .args in
+    let a = at-start .args in
     let put = c .put-masks .ensures in (
       omega arith,
       put .0,

@@ -22,9 +22,10 @@ record-word-requires c κs = search needs
 returns : tie.Need-returns
 unfolding lineWord lent
 returns c =
+    let after-automata : tie.After-automata = search in
     rw (
       c .before .lines-from .ensures,
-      c .before .before .before .before .automata .ensures,
+      after-automata .automata .ensures,
       c .before .before .before .states .ensures,
       c .before .before .transitions .ensures,
     ) at (c .record-word .ensures)

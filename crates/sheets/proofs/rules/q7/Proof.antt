@@ -24,8 +24,9 @@ states-requires c κs = search needs
 returns-3 : tie.Need-returns-3
 unfolding q7 lent fits
 returns-3 c =
+    let else1 : tie.Else1 = search in
     simp (
-      le-leb ruleHeader _ (c .before .before .before .before .if1 .left),
+      le-leb ruleHeader _ (else1 .if1 .left),
       rw (c .before .before .before .automata .ensures) at (le-leb _ automataMost (c .before .before .if2 .left)),
       rw (c .before .states .ensures) at (lt-leb _ statesMost (c .if3 .taken)),
     )
@@ -36,9 +37,10 @@ transitions-requires c κs = search needs
 returns-4 : tie.Need-returns-4
 unfolding q7 lent fits
 returns-4 c =
+    let else2 : tie.Else2 = search in
     simp (
-      le-leb ruleHeader _ (c .before .before .before .before .before .before .if1 .left),
-      rw (c .before .before .before .before .before .automata .ensures) at (le-leb _ automataMost (c .before .before .before .before .if2 .left)),
+      le-leb ruleHeader _ (else2 .before .before .if1 .left),
+      rw (else2 .before .automata .ensures) at (le-leb _ automataMost (else2 .if2 .left)),
       rw (c .before .before .before .states .ensures) at (le-leb _ statesMost (c .before .before .if3 .left)),
       rw (c .before .transitions .ensures) at (lt-leb _ transitionsMost (c .if4 .taken)),
     )
@@ -52,10 +54,11 @@ within-requires c κs = search needs
 returns-5 : tie.Need-returns-5
 unfolding q7 lent fits within
 returns-5 c =
+    let after-automata : tie.After-automata = search in let else3 : tie.Else3 = search in
     simp (
-      le-leb ruleHeader _ (c .before .before .before .before .before .before .before .before .if1 .left),
-      rw (c .before .before .before .before .before .before .before .automata .ensures) at (le-leb _ automataMost (c .before .before .before .before .before .before .if2 .left)),
-      rw (c .before .before .before .before .before .states .ensures) at (le-leb _ statesMost (c .before .before .before .before .if3 .left)),
+      le-leb ruleHeader _ (after-automata .before .if1 .left),
+      rw (after-automata .automata .ensures) at (le-leb _ automataMost (else3 .before .before .if2 .left)),
+      rw (else3 .before .states .ensures) at (le-leb _ statesMost (else3 .if3 .left)),
       rw (c .before .before .before .transitions .ensures) at (le-leb _ transitionsMost (c .before .before .if4 .left)),
     )
     (rw (c .before .lines .ensures) at (c .within .ensures))

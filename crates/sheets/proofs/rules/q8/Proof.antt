@@ -25,8 +25,9 @@ cast-result c = search needs
 returns : tie.Need-returns
 unfolding q8 lent
 returns c =
+    let after-automata : tie.After-automata = search in
     rw (
-      ← (c .before .before .before .before .automata .ensures),
+      ← (after-automata .automata .ensures),
       ← (c .before .before .before .states .ensures),
       ← (c .before .before .transitions .ensures),
       ← (c .before .lines .ensures),

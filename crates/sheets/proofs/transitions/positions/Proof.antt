@@ -46,7 +46,7 @@ loop-less c = search needs
 
 loop-again : tie.Need-loop-again Inv-loop μ-loop
 loop-again c =
-    let a = c .before .before .before .before .args in
+    let at-start : tie.Start Inv-loop μ-loop = search in let a = at-start .args in
     let at = c .before .before .before .loop in
     (omega arith, λ j. c .with .ensures j ∙ upTo-yes (test (a .t1) (a .t)) j _ _ (at .inv .1 j) (eq-eqb _ _ (c .before .if1 .taken)))
 

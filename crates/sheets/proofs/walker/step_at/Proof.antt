@@ -22,8 +22,8 @@ record-word-requires-3 c κs = search needs
 
 returns-2 : tie.Need-returns-2
 returns-2 c =
-    let args = c .before .before .before .before .before .before .args in
-    read-record (args .ws .now) (args .base) (args .width) (args .at) _ _ _ _ (c .before .before .before .before .if1 .left)
+    let else1 : tie.Else1 = search in let args = else1 .before .before .args in
+    read-record (args .ws .now) (args .base) (args .width) (args .at) _ _ _ _ (else1 .if1 .left)
     (c .before .before .before .record-word .ensures) (c .before .before .record-word2 .ensures) (c .before .last-of .ensures) (c .record-word3 .ensures)
 
 pub step-at-spec : {M : Type 1} → statement M
