@@ -36,10 +36,10 @@ has-requires c κs = search needs
 returns : tie.Need-returns Inv-loop μ-loop
 unfolding startFlag
 returns c =
-    let a = c .before .before .before .before .before .before .before .before .args in
-    let at = c .before .before .before .before .before .loop in
+    let at-start : tie.Start Inv-loop μ-loop = search in let at-loop : tie.At-loop Inv-loop μ-loop = search in let a = at-start .args in
+    let at = at-loop .loop in
     let flag = sym (c .before .before .before .start-flag .ensures) ∙ c .before .before .if1 .taken in
-    let n = c .before .before .before .before .before .before .nodes in
+    let n = at-loop .before .nodes in
     outside-found (a .m .now) (rowHas (a .row)) (at .s) (at .inv .1) (omega (arith, n .ensures)) flag
     (sym (c .before .has .ensures) ∙ not-true (c .before .has .result) (c .if2 .taken))
 
@@ -48,8 +48,8 @@ loop-less c = search needs
 
 loop-again : tie.Need-loop-again Inv-loop μ-loop
 loop-again c =
-    let a = c .before .before .before .before .before .before .before .before .args in
-    let at = c .before .before .before .before .before .loop in
+    let at-start : tie.Start Inv-loop μ-loop = search in let at-loop : tie.At-loop Inv-loop μ-loop = search in let a = at-start .args in
+    let at = at-loop .loop in
     let has = c .before .has in
     (omega arith, passed-in (a .m .now) (rowHas (a .row)) (at .s) (at .inv .1) (sym (has .ensures) ∙ not-false (has .result) (c .if2 .left)))
 
@@ -59,14 +59,14 @@ loop-less-2 c = search needs
 loop-again-2 : tie.Need-loop-again-2 Inv-loop μ-loop
 unfolding startFlag
 loop-again-2 c =
-    let a = c .before .before .before .before .before .before .args in
+    let at-start : tie.Start Inv-loop μ-loop = search in let a = at-start .args in
     let at = c .before .before .before .loop in
     let word = c .before .start-flag in
     (omega arith, passed-other (a .m .now) (rowHas (a .row)) (at .s) (at .inv .1) (λ e. c .if1 .left (word .ensures ∙ e)))
 
 returns-2 : tie.Need-returns-2 Inv-loop μ-loop
 returns-2 c =
-    let a = c .before .before .before .before .args in
+    let at-start : tie.Start Inv-loop μ-loop = search in let a = at-start .args in
     let e : c .before .loop .s ≡ nodes (a .m .now) = omega (arith, c .before .before .nodes .ensures) in
     outside-none (a .m .now) (rowHas (a .row)) (rw e at (c .before .loop .inv .1))
 

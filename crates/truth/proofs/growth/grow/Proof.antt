@@ -23,20 +23,22 @@ loop-holds c = turns-none
 
 grow-round-requires : tie.Need-grow-round-requires Inv-loop μ-loop
 grow-round-requires c κs =
-    let a = c .before .before .before .before .before .args in
+    let at-start : tie.Start Inv-loop μ-loop = search in let a = at-start .args in
     let g = c .before .before .before .loop .inv in
     let most = weight-most (a .t) (λ p s. not (rowsHas (a .xs) p s)) (rowsHas (a .xs)) (omega arith) in
     let long : length (a .xs) ≡ setWords = search needs in
-    (omega arith, omega (arith, g .fewer, most), g .ys-size ∙ long, g .new-size ∙ long, c .before .before .before .before .before .pre .2)
+    (omega arith, omega (arith, g .fewer, most), g .ys-size ∙ long, g .new-size ∙ long, at-start .pre .2)
 
 same-length : tie.Need-same-length Inv-loop μ-loop
-same-length c = c .before .before .before .grow-round .ensures .0 .times-size ∙ c .before .before .before .before .before .before .before .loop .inv .times-size
+same-length c =
+    let at-loop : tie.At-loop Inv-loop μ-loop = search in
+    c .before .before .before .grow-round .ensures .0 .times-size ∙ at-loop .loop .inv .times-size
 
 returns : tie.Need-returns Inv-loop μ-loop
 returns c n next transposed upTo within =
-    let a = c .before .before .before .before .before .before .before .before .before .args in
-    let g = turns-more (c .before .before .before .before .before .before .before .loop .inv) (c .before .before .before .grow-round .ensures .0) in
-    growing-last (g .grows n next (a .xs) transposed upTo (growing-first _ (c .before .before .before .before .before .before .before .before .before .pre .1) within)) (c .before .before .before .grow-round .ensures .1 (c .if1 .taken))
+    let at-loop : tie.At-loop Inv-loop μ-loop = search in let a = at-loop .before .before .args in
+    let g = turns-more (at-loop .loop .inv) (c .before .before .before .grow-round .ensures .0) in
+    growing-last (g .grows n next (a .xs) transposed upTo (growing-first _ (at-loop .before .before .pre .1) within)) (c .before .before .before .grow-round .ensures .1 (c .if1 .taken))
 
 loop-less : tie.Need-loop-less Inv-loop μ-loop
 loop-less c =
@@ -44,7 +46,7 @@ loop-less c =
     omega (arith, g .later, g .fewer, c .if1 .left)
 
 loop-again : tie.Need-loop-again Inv-loop μ-loop
-loop-again c = turns-more (c .before .before .before .before .before .before .before .loop .inv) (c .before .before .before .grow-round .ensures .0)
+loop-again c = let at-loop : tie.At-loop Inv-loop μ-loop = search in turns-more (at-loop .loop .inv) (c .before .before .before .grow-round .ensures .0)
 
 pub grow-spec : {M : Type 1} → statement M
 grow-spec =

@@ -24,19 +24,19 @@ Inv-loop allow back into t p2 time ys₀ new₀ times₀ prev left₀ ys new tim
 abbrev μ-loop : tie.MeasureT-loop
 μ-loop allow back into t p2 time ys₀ new₀ times₀ prev left₀ ys new times left = number membersMost (rowHas left)
 
-cleared : (c : tie.After-store Inv-loop μ-loop) → Cleared (c .before .before .before .before .before .before .before .before .args .p2) (c .before .before .before .before .before .before .before .before .args .new .now) (c .store .last .0)
+cleared : (c : tie.After-store Inv-loop μ-loop) → let at-start : tie.Start Inv-loop μ-loop = search in Cleared (at-start .args .p2) (at-start .args .new .now) (c .store .last .0)
 cleared c =
-    let a = c .before .before .before .before .before .before .before .before .args in
-    let pre = c .before .before .before .before .before .before .before .before .pre in
+    let at-start : tie.Start Inv-loop μ-loop = search in let a = at-start .args in
+    let pre = at-start .pre in
     emptied (a .new .now) _ (a .p2) _ _ (omega (arith, pre .0, pre .1, pre .3)) (c .store .ensures) (c .before .empty .ensures)
 
 -- the member that is found
-few : (c : tie.Else1 Inv-loop μ-loop) → (1 ≤ c .before .first .result) × (c .before .first .result ≤ c .before .before .before .before .before .before .before .before .before .before .before .before .args .t)
+few : (c : tie.Else1 Inv-loop μ-loop) → let at-start : tie.Start Inv-loop μ-loop = search in (1 ≤ c .before .first .result) × (c .before .first .result ≤ at-start .args .t)
 few c =
-    let f = c .before .first .ensures in
+    let at-start : tie.Start Inv-loop μ-loop = search in let f = c .before .first .ensures in
     let n = c .if1 .left in
     let from = c .before .before .before .load2 .ensures in
-    (one-within _ _ _ f n .0, c .before .before .before .before .before .before .before .before .before .before .before .before .pre .4 .few (c .before .before .before .before .before .before .before .before .before .before .before .before .args .p2) _ (rw (from .0, from .1) at (c .before .before .loop .inv .0 _ (one-left _ _ f n))))
+    (one-within _ _ _ f n .0, at-start .pre .4 .few (at-start .args .p2) _ (rw (from .0, from .1) at (c .before .before .loop .inv .0 _ (one-left _ _ f n))))
 
 load-requires : tie.Need-load-requires Inv-loop μ-loop
 load-requires c κs = omega arith
@@ -51,10 +51,12 @@ store-requires : tie.Need-store-requires Inv-loop μ-loop
 store-requires c κs = omega arith
 
 load-requires-2 : tie.Need-load-requires-2 Inv-loop μ-loop
-load-requires-2 c κs = omega (arith, c .before .before .before .before .before .before .before .before .pre .0, c .before .before .before .before .before .before .before .before .pre .1)
+load-requires-2 c κs = let at-start : tie.Start Inv-loop μ-loop = search in omega (arith, at-start .pre .0, at-start .pre .1)
 
 loop-holds : tie.Need-loop-holds Inv-loop μ-loop
-loop-holds c = (λ u t. t, spread-none (among-none (rowHas (c .load2 .result)) (enters (c .before .before .before .before .before .before .before .before .before .args .allow .now) (c .before .before .before .before .before .before .before .before .before .args .p2) (rowHas (c .before .before .before .before .together .result)))))
+loop-holds c =
+    let at-start : tie.Start Inv-loop μ-loop = search in let after-together : tie.After-together Inv-loop μ-loop = search in
+    (λ u t. t, spread-none (among-none (rowHas (c .load2 .result)) (enters (at-start .args .allow .now) (at-start .args .p2) (rowHas (after-together .together .result)))))
 
 first-requires : tie.Need-first-requires Inv-loop μ-loop
 first-requires c κs = omega arith
@@ -64,12 +66,13 @@ same-length c = c .before .before .loop .inv .1 .times-size
 
 returns : tie.Need-returns Inv-loop μ-loop
 returns c =
-    let a = c .before .before .before .before .before .before .before .before .before .before .before .before .args in
-    let pre = c .before .before .before .before .before .before .before .before .before .before .before .before .pre in
+    let at-start : tie.Start Inv-loop μ-loop = search in let after-together : tie.After-together Inv-loop μ-loop = search in
+    let after-store : tie.After-store Inv-loop μ-loop = search in let a = at-start .args in
+    let pre = at-start .pre in
     let l = c .before .before .loop in
-    let row = c .before .before .before .before .before .before .before .before .load .ensures in
+    let row = after-together .before .load .ensures in
     let from = c .before .before .before .load2 in
-    let prev = c .before .before .before .before .before .before .before .together in
+    let prev = after-together .together in
     let before : (s : ℕ) → T (rowHas (prev .result) s) ↔ Before (a .back .now) (rowsHas (a .new .now) (a .p2)) s = rw (row .0, row .1) at (prev .ensures) in
     let enter = enters (a .allow .now) (a .p2) (rowHas (prev .result)) in
     let none = none-left _ _ (c .before .first .ensures) (c .if1 .taken) in
@@ -80,8 +83,8 @@ returns c =
     record {
       prev = rowHas (prev .result);
       before = before;
-      cleared = c .before .before .before .before .store .last .0;
-      clears = cleared (c .before .before .before .before);
+      cleared = after-store .store .last .0;
+      clears = cleared after-store;
       spread = spread-same same (l .inv .1);
     }
 
@@ -96,27 +99,30 @@ sub-grow-one c = omega (arith, few (c .before))
 
 grow-one-requires : tie.Need-grow-one-requires Inv-loop μ-loop
 grow-one-requires c κs =
-    let pre = c .before .before .before .before .before .before .before .before .before .before .before .before .before .before .before .before .pre in
-    let g = c .before .before .before .before .before .before .loop .inv .1 in
-    (omega (arith, few (c .before .before .before .before), pre .1), omega (arith, pre .0, pre .1), g .ys-size ∙ pre .2, g .new-size ∙ cleared (c .before .before .before .before .before .before .before .before) .size ∙ pre .3)
+    let at-start : tie.Start Inv-loop μ-loop = search in let else1 : tie.Else1 Inv-loop μ-loop = search in
+    let after-store : tie.After-store Inv-loop μ-loop = search in let pre = at-start .pre in
+    let g = else1 .before .before .loop .inv .1 in
+    (omega (arith, few else1, pre .1), omega (arith, pre .0, pre .1), g .ys-size ∙ pre .2, g .new-size ∙ cleared after-store .size ∙ pre .3)
 
 loop-less : tie.Need-loop-less Inv-loop μ-loop
 loop-less c =
-    let n = c .before .before .before .before .before .before .before .if1 .left in
-    let f = c .before .before .before .before .before .before .before .before .first .ensures in
+    let after-without : tie.After-without Inv-loop μ-loop = search in let n = after-without .before .if1 .left in
+    let f = after-without .before .before .first .ensures in
     let r = one-within _ _ _ f n in
-    less-falls _ _ _ (c .before .before .before .before .before .before .without .ensures) (r .0) (r .1) (one-left _ _ f n)
+    less-falls _ _ _ (after-without .without .ensures) (r .0) (r .1) (one-left _ _ f n)
 
 loop-again : tie.Need-loop-again Inv-loop μ-loop
 loop-again c =
-    let a = c .before .before .before .before .before .before .before .before .before .before .before .before .before .before .before .before .before .before .before .args in
-    let l = c .before .before .before .before .before .before .before .before .before .loop in
-    let n = c .before .before .before .before .before .before .before .if1 .left in
-    let f = c .before .before .before .before .before .before .before .before .first .ensures in
-    let less = c .before .before .before .before .before .before .without .ensures in
+    let at-start : tie.Start Inv-loop μ-loop = search in let at-loop : tie.At-loop Inv-loop μ-loop = search in
+    let after-without : tie.After-without Inv-loop μ-loop = search in let after-together : tie.After-together Inv-loop μ-loop = search in
+    let a = at-start .args in
+    let l = at-loop .loop in
+    let n = after-without .before .if1 .left in
+    let f = after-without .before .before .first .ensures in
+    let less = after-without .without .ensures in
     let t = one-left _ _ f n in
-    let enter = enters (a .allow .now) (a .p2) (rowHas (c .before .before .before .before .before .before .before .before .before .before .before .before .before .before .together .result)) in
-    let join = among-next (rowHas (c .before .before .before .before .before .before .before .before .before .before .load2 .result)) enter (rowHas (l .left)) (rowHas (c .before .before .before .before .before .before .without .result)) (c .before .before .before .before .before .before .before .before .first .result) less t (l .inv .0 _ t) (one-within _ _ _ f n .0) in
+    let enter = enters (a .allow .now) (a .p2) (rowHas (after-together .together .result)) in
+    let join = among-next (rowHas (at-loop .before .load2 .result)) enter (rowHas (l .left)) (rowHas (after-without .without .result)) (after-without .before .before .first .result) less t (l .inv .0 _ t) (one-within _ _ _ f n .0) in
     (λ u x. l .inv .0 u (less-in (rowHas (l .left)) _ _ less u x), spread-more join (l .inv .1) (c .before .before .grow-one .ensures))
 
 pub grow-from-spec : {M : Type 1} → statement M

@@ -14,7 +14,7 @@ use Rattle.truth.proofs.growth.grow_one.Statement.{statement}
 use Rattle.truth.proofs.growth.grow_one.Tie as tie
 
 abbrev start : tie.After-difference → tie.Start
-start c = c .before .before .before .before .before .before
+start c = search
 
 -- the nodes at p that step to p2 and are not met
 extra : (c : tie.After-difference) (s : ℕ)
@@ -65,28 +65,28 @@ union-requires-2 : tie.Need-union-requires-2
 union-requires-2 c κs = omega arith
 
 store-requires-2 : tie.Need-store-requires-2
-store-requires-2 c κs = c .before .before .before .before .before .before .before .before .before .before .before .before .before .before .before .pre .0
+store-requires-2 c κs = let at-start : tie.Start = search in at-start .pre .0
 
 put-time-requires : tie.Need-put-time-requires
-put-time-requires c κs = (c .before .before .before .before .before .before .before .before .before .before .before .before .before .before .before .before .before .before .pre .0, omega (arith, c .before .if2 .left))
+put-time-requires c κs = let at-start : tie.Start = search in (at-start .pre .0, omega (arith, c .before .if2 .left))
 
 -- what is added, and what the times are then
 added : (c : tie.After-store2) (times : List ℕ) → TimePut (rowHas (c .before .before .before .before .before .before .before .before .before .before .difference .result)) (c .before .before .before .before .before .before .before .before .before .before .before .before .before .before .before .before .args .p) (c .before .before .before .before .before .before .before .before .before .before .before .before .before .before .before .before .args .time) (c .before .before .before .before .before .before .before .before .before .before .before .before .before .before .before .before .args .times .now) times
     → Spread (λ q s. eqb q (c .before .before .before .before .before .before .before .before .before .before .before .before .before .before .before .before .args .p) && enters (c .before .before .before .before .before .before .before .before .before .before .before .before .before .before .before .before .args .allow .now) (c .before .before .before .before .before .before .before .before .before .before .before .before .before .before .before .before .args .p2) (rowHas (c .before .before .before .before .before .before .before .before .before .before .before .before .before .before .before .before .args .prev)) (c .before .before .before .before .before .before .before .before .before .before .before .before .before .before .before .before .args .p) s) (c .before .before .before .before .before .before .before .before .before .before .before .before .before .before .before .before .args .time)
     (c .before .before .before .before .before .before .before .before .before .before .before .before .before .before .before .before .args .ys .now) (c .before .before .before .before .before .before .before .before .before .before .before .before .before .before .before .before .args .new .now) (c .before .before .before .before .before .before .before .before .before .before .before .before .before .before .before .before .args .times .now) (c .before .before .before .before .before .store .last .0) (c .store2 .last .0) times
 added c times put =
-    let d = c .before .before .before .before .before .before .before .before .before .before in
-    let a = c .before .before .before .before .before .before .before .before .before .before .before .before .before .before .before .before .args in
-    let here = c .before .before .before .before .before .before .before .before .before .before .before .before .before .load .ensures in
+    let at-start : tie.Start = search in let after-load : tie.After-load = search in let after-store : tie.After-store = search in
+    let d : tie.After-difference = search in let a = at-start .args in
+    let here = after-load .load .ensures in
     let long : 2 * a .p + 1 < length (a .ys .now) = omega arith in
     let long′ : 2 * a .p + 1 < length (a .new .now) = omega arith in
-    let e = c .before .before .before .before .before .store .ensures in
+    let e = after-store .store .ensures in
     let f = c .store2 .ensures in
     let new = c .before .before .before .load3 .ensures in
     spread-one (enters (a .allow .now) (a .p2) (rowHas (a .prev)) (a .p)) _ _ _ _ _ _ _ _ _ (extra d)
     (rw e (stored-length (a .ys .now) (a .p) _ _ long))
     (rw f (stored-length (a .new .now) (a .p) _ _ long′))
-    (rw e (stored-more (a .ys .now) (a .p) _ _ long (rowHas (d .difference .result)) (λ s. rw (here .0, here .1) at (c .before .before .before .before .before .before .union .ensures s))))
+    (rw e (stored-more (a .ys .now) (a .p) _ _ long (rowHas (d .difference .result)) (λ s. rw (here .0, here .1) at (after-store .before .union .ensures s))))
     (rw f (stored-more (a .new .now) (a .p) _ _ long′ (rowHas (d .difference .result)) (λ s. rw (new .0, new .1) at (c .before .union2 .ensures s))))
     put
 
@@ -97,7 +97,7 @@ same-length : tie.Need-same-length
 same-length c = c .before .before .put-time .ensures .size
 
 returns-3 : tie.Need-returns-3
-returns-3 c = added (c .before .before .before .before .before) _ (c .before .before .put-time .ensures)
+returns-3 c = let after-store2 : tie.After-store2 = search in added after-store2 _ (c .before .before .put-time .ensures)
 
 pub grow-one-spec : {M : Type 1} → statement M
 grow-one-spec =

@@ -22,7 +22,7 @@ abbrev μ-loop : tie.MeasureT-loop
 μ-loop allow back into t time ys₀ new₀ times₀ at₀ k₀ ys new times at k = t - k
 
 abbrev at-loop : tie.After-is-empty Inv-loop μ-loop → tie.At-loop Inv-loop μ-loop
-at-loop c = c .before .before .before .before
+at-loop c = search
 
 -- whether row k of the new pairs is empty
 tested : (c : tie.After-is-empty Inv-loop μ-loop) → each membersMost (λ s. not (rowsHas (at-loop c .loop .new) (at-loop c .loop .k) s)) ≡ c .is-empty .result
@@ -42,24 +42,26 @@ is-empty-requires c κs = omega arith
 
 grow-from-requires : tie.Need-grow-from-requires Inv-loop μ-loop
 grow-from-requires c κs =
-    let pre = c .before .before .before .before .before .before .before .before .before .before .pre in
-    let g = c .before .before .before .before .before .before .before .before .loop .inv .1 in
+    let at-loop-place : tie.At-loop Inv-loop μ-loop = search in let pre = at-loop-place .before .before .pre in
+    let g = at-loop-place .loop .inv .1 in
     (omega arith, omega arith, g .ys-size ∙ pre .2, g .new-size ∙ pre .3, pre .4)
 
 add-at : tie.Need-add-at Inv-loop μ-loop
 add-at c =
-    let l = c .before .before .before .before .before .before .before .before .before .before .before .loop in
-    let some = tested (c .before .before .before .before .before .before .before) ∙ not-true _ (c .before .before .before .before .before .before .if1 .taken) in
+    let at-loop-place : tie.At-loop Inv-loop μ-loop = search in let then1 : tie.Then1 Inv-loop μ-loop = search in
+    let l = at-loop-place .loop in
+    let some = tested (then1 .before) ∙ not-true _ (then1 .if1 .taken) in
     let turn = turns-one (omega arith) (omega arith) (c .before .before .grow-from .ensures) some in
-    omega (arith, turn .fewer, l .inv .1 .fewer, c .before .before .before .before .before .before .before .before .before .before .before .before .before .pre .1)
+    omega (arith, turn .fewer, l .inv .1 .fewer, at-loop-place .before .before .pre .1)
 
 loop-less : tie.Need-loop-less Inv-loop μ-loop
 loop-less c = omega arith
 
 loop-again : tie.Need-loop-again Inv-loop μ-loop
 loop-again c =
-    let l = c .before .before .before .before .before .before .before .before .before .before .before .loop in
-    let some = tested (c .before .before .before .before .before .before .before) ∙ not-true _ (c .before .before .before .before .before .before .if1 .taken) in
+    let at-loop-place : tie.At-loop Inv-loop μ-loop = search in let then1 : tie.Then1 Inv-loop μ-loop = search in
+    let l = at-loop-place .loop in
+    let some = tested (then1 .before) ∙ not-true _ (then1 .if1 .taken) in
     let turn = turns-one (omega arith) (omega arith) (c .before .before .grow-from .ensures) some in
     (omega arith, turns-more (l .inv .1) turn, λ e. absurd (omega (arith, l .inv .1 .later)))
 
@@ -68,7 +70,7 @@ loop-less-2 c = omega arith
 
 loop-again-2 : tie.Need-loop-again-2 Inv-loop μ-loop
 loop-again-2 c =
-    let l = c .before .before .before .before .before .loop in
+    let at-loop-place : tie.At-loop Inv-loop μ-loop = search in let l = at-loop-place .loop in
     let none = tested (c .before) ∙ not-false _ (c .if1 .left) in
     (omega arith, l .inv .1, λ e. below-more (NoRow (l .new)) (l .k) (l .inv .2 e) (none-passes (rowsHas (l .new) (l .k)) (held-in _ _) none))
 

@@ -14,7 +14,7 @@ use Rattle.truth.proofs.labelling.label_refusal.Statement.{statement}
 use Rattle.truth.proofs.labelling.label_refusal.Tie as tie
 
 abbrev start : tie.Else1 → tie.Start
-start c = c .before .before .before .before
+start c = search
 
 -- where both sheets are accepted, the space decides
 by-space : (c : tie.Else1) (k : ℕ) → Finds (spaceQuestion (start c .args .r .now) (start c .args .space)) k
@@ -31,7 +31,7 @@ sheets-refusal-requires c κs = omega arith
 returns : tie.Need-returns
 unfolding labelQuestions
 returns c =
-    let a = c .before .before .before .before .args in
+    let at-start : tie.Start = search in let a = at-start .args in
     sym (found (labelQuestions (a .m .now) (a .r .now) (a .space))
     (part-returned (sheetQuestions (a .m .now) (a .r .now)) (spaceQuestion (a .r .now) (a .space)) _ (c .before .sheets-refusal .ensures) (c .if1 .taken)))
 

@@ -28,10 +28,10 @@ intersection-requires c κs = omega arith
 
 returns : tie.Need-returns
 returns c =
-    let a = c .before .before .before .before .before .before .before .before .args in
+    let at-start : tie.Start = search in let after-node-row : tie.After-node-row = search in let a = at-start .args in
     let e = c .before .before .before .line-row .ensures in
     let f = c .before .before .line-row2 .ensures in
-    nodes-passing (c .before .before .before .before .before .nodes .ensures) (c .before .before .before .before .node-row .ensures) (rowHas (c .before .union .result))
+    nodes-passing (after-node-row .before .nodes .ensures) (after-node-row .node-row .ensures) (rowHas (c .before .union .result))
     (λ s. rowsHas (a .rows .now) (a .i - 1) s || rowsHas (a .rows .now) (a .k - 1) s) (c .intersection .ensures)
     (λ s. c .before .union .ensures s ∙ rw (e .0, e .1, f .0, f .1))
 

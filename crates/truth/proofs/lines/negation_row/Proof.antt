@@ -21,8 +21,8 @@ difference-requires c κs = omega arith
 
 returns : tie.Need-returns
 returns c =
-    let rows = c .before .before .before .before .before .before .args .rows .now in
-    let k = c .before .before .before .before .before .before .args .k in
+    let at-start : tie.Start = search in let rows = at-start .args .rows .now in
+    let k = at-start .args .k in
     let line = c .before .line-row .result in
     let e = c .before .line-row .ensures in
     nodes-passing (c .before .before .before .nodes .ensures) (c .before .before .node-row .ensures) (λ s. not (rowHas line s)) (λ s. not (rowsHas rows (k - 1) s)) (c .difference .ensures) (λ s. rw (e .0, e .1))

@@ -22,7 +22,7 @@ solve-with-requires : tie.Need-solve-with-requires
 solve-with-requires c κs =
     let argued = c .before .before in
     let tabled = argued .before in
-    let start = tabled .before .before .before .before in
+    let start : tie.Start = search in
     (rw (argued .arguments .ensures) (solvable (start .pre) (tabled .by-position .result) (tabled .by-position .ensures)), refl, λ p s x. rw (zero-row tableWords p s) at x, zero-word 1)
 
 load-requires : tie.Need-load-requires
@@ -30,11 +30,9 @@ load-requires c κs = omega arith
 
 returns : tie.Need-returns
 returns c =
-    let solved = c .before .before .before .before in
-    let argued = solved .before .before .before in
+    let solved : tie.After-solve-with = search in let argued = solved .before .before .before in
     let tabled = argued .before in
-    let start = tabled .before .before .before .before in
-    let R = start .args .r .now in
+    let start : tie.Start = search in let R = start .args .r .now in
     let x = start .args .p .automaton in
     path-row-of (start .pre) (rw (argued .arguments .ensures) at (solved .solve-with .ensures (positioned R x) (stateCount R x) (stateOf R x) (tabled .by-position .ensures))) (c .load .ensures .0) (c .load .ensures .1)
 

@@ -10,7 +10,7 @@ slice-aggregate-solve-with : tie.Need-slice-aggregate-solve-with
 slice-aggregate-solve-with c = search needs
 
 solve-with-requires : tie.Need-solve-with-requires
-solve-with-requires c κs = (c .before .before .before .before .pre, refl, λ p s x. rw (zero-row tableWords p s) at x, zero-word pairsMost)
+solve-with-requires c κs = let at-start : tie.Start = search in (at-start .pre, refl, λ p s x. rw (zero-row tableWords p s) at x, zero-word pairsMost)
 
 returns : tie.Need-returns
 returns c = c .before .before .before .solve-with .ensures

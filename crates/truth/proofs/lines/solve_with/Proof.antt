@@ -17,10 +17,10 @@ use Rattle.truth.proofs.lines.solve_with.Tie as tie
 
 -- the start, from where the nodes' row is made and from where the table is made
 abbrev row-start : tie.After-node-row → tie.Start
-row-start c = c .before .before .before .before .before
+row-start c = search
 
 abbrev allow-row : tie.After-allow-table → tie.After-node-row
-allow-row c = c .before .before .before .before .before .before
+allow-row c = search
 
 nodes-requires : tie.Need-nodes-requires
 nodes-requires c κs = omega arith
@@ -30,7 +30,8 @@ node-row-requires c κs = omega arith
 
 allow-table-requires : tie.Need-allow-table-requires
 allow-table-requires c κs =
-    let pre = row-start (c .before .before .before .before .before) .pre in (
+    let after-node-row : tie.After-node-row = search in
+    let pre = row-start after-node-row .pre in (
       pre .0 .few,
       pre .0 .valued,
       pre .0 .arguments,
@@ -48,16 +49,15 @@ cast-trim c = omega arith
 
 trim-requires : tie.Need-trim-requires
 trim-requires c κs =
-    let allowed = c .before .before .before .before in
+    let allowed : tie.After-allow-table = search in
     (row-start (allow-row allowed) .pre .0 .few, allowed .allow-table .ensures .1 .0, allowed .allow-table .ensures .1 .1)
 
 cast-grow : tie.Need-cast-grow
-cast-grow c = let few = row-start (allow-row (c .before .before .before .before .before .before .before)) .pre .0 .few in omega (arith, few)
+cast-grow c = let after-allow-table : tie.After-allow-table = search in let few = row-start (allow-row after-allow-table) .pre .0 .few in omega (arith, few)
 
 grow-requires : tie.Need-grow-requires
 grow-requires c κs =
-    let allowed = c .before .before .before .before .before .before .before .before in
-    let pre = row-start (allow-row allowed) .pre in
+    let allowed : tie.After-allow-table = search in let pre = row-start (allow-row allowed) .pre in
     (pre .0 .few, pre .3, allowed .allow-table .ensures .1 .0)
 
 same-length : tie.Need-same-length
@@ -66,9 +66,7 @@ same-length c = search needs
 returns : tie.Need-returns
 returns c A t name is =
     let grown = c .before .before in
-    let trimmed = grown .before .before .before .before in
-    let made = trimmed .before .before .before .before in
-    let allowed = made .before in
+    let trimmed : tie.After-trim = search in let made : tie.After-good-table = search in let allowed = made .before in
     let row = allow-row allowed in
     let start = row-start row in
     let a = start .args in

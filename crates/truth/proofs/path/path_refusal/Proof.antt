@@ -11,7 +11,7 @@ use Rattle.truth.proofs.path.path_refusal.Statement.{statement}
 use Rattle.truth.proofs.path.path_refusal.Tie as tie
 
 abbrev start : tie.Else1 → tie.Start
-start c = c .before .before .before .before
+start c = search
 
 -- where both sheets are accepted, the call's own questions decide
 after-sheets : (c : tie.Else1) {n : ℕ} → let a = start c .args in Finds (ownQuestions (a .m .now) (a .r .now) (a .line) (a .node) (a .room)) n
@@ -27,7 +27,7 @@ sheets-refusal-requires c κs = search needs
 returns : tie.Need-returns
 unfolding pathQuestions
 returns c =
-    let a = c .before .before .before .before .args in
+    let at-start : tie.Start = search in let a = at-start .args in
     sym (found (pathQuestions (a .m .now) (a .r .now) (a .line) (a .node) (a .room))
     (part-returned (sheetQuestions (a .m .now) (a .r .now)) (ownQuestions (a .m .now) (a .r .now) (a .line) (a .node) (a .room)) _ (c .before .sheets-refusal .ensures) (c .if1 .taken)))
 

@@ -19,13 +19,13 @@ use Rattle.truth.proofs.path.show.Tie as tie
 -- ---- places before the row is looked at
 
 abbrev solved-at : tie.After-has → tie.After-solve
-solved-at c = c .before .before .before .before
+solved-at c = search
 
 abbrev tabled-at : tie.After-has → tie.After-by-position
 tabled-at c = solved-at c .before .before .before
 
 abbrev start : tie.After-by-position → tie.Start
-start c = c .before .before .before .before
+start c = search
 
 -- the tables are solved
 line : (c : tie.After-has)
@@ -73,13 +73,12 @@ nodes-requires c κs = search needs
 
 cast-trace : tie.Need-cast-trace
 cast-trace c =
-    let tabled = tabled-at (c .before .before .before .before) in
+    let after-has : tie.After-has = search in let tabled = tabled-at after-has in
     omega (arith, states-few (start tabled .pre .0), tabled .by-position .ensures .count)
 
 trace-requires : tie.Need-trace-requires
 trace-requires c κs =
-    let counted = c .before .before .before .before .before in
-    let has = counted .before .before in
+    let counted : tie.After-nodes = search in let has = counted .before .before in
     let first = start (tabled-at has) in
     let load = has .before .load .ensures in
     traceable (first .pre .0) (line has) (first .args .s) (first .pre .1 .0) (first .pre .1 .1) (load .0) (load .1) (has .has .ensures) (counted .before .if1 .left)
@@ -87,8 +86,7 @@ trace-requires c κs =
 
 named-requires : tie.Need-named-requires
 named-requires c κs =
-    let counted = c .before .before .before .before .before .before .before in
-    let has = counted .before .before in
+    let counted : tie.After-nodes = search in let has = counted .before .before in
     let first = start (tabled-at has) in
     let load = has .before .load .ensures in
     list-fits (first .pre .0) (line has) (first .args .s) (first .pre .1 .0) (first .pre .1 .1) (load .0) (load .1) (has .has .ensures) (counted .before .if1 .left)
@@ -97,8 +95,7 @@ named-requires c κs =
 returns-2 : tie.Need-returns-2
 returns-2 c =
     let trail = c .before .before .before in
-    let counted = trail .before .before .before .before .before .before in
-    let has = counted .before .before in
+    let counted : tie.After-nodes = search in let has = counted .before .before in
     let first = start (tabled-at has) in
     let load = has .before .load .ensures in
     let tabled = tabled-at has .by-position in

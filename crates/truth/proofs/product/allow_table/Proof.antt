@@ -44,8 +44,7 @@ element-copy-out-set-mask c = omega arith
 
 set-mask-requires : tie.Need-set-mask-requires Inv-loop μ-loop
 set-mask-requires c κs =
-    let at = c .before .before .before .before .before .before .before in
-    let l = at .loop in
+    let at : tie.At-loop Inv-loop μ-loop = search in let l = at .loop in
     let pre = start (at .before) .pre in
     (omega (arith, pre .0), omega arith, l .inv .1 .size, l .inv .1 .rest _ (omega arith), l .inv .2 .size, l .inv .3 .size)
 
@@ -54,8 +53,7 @@ loop-less c = omega arith
 
 loop-again : tie.Need-loop-again Inv-loop μ-loop
 loop-again c =
-    let chosen = c .before .before .before .before .before .before in
-    let at = chosen .before .before in
+    let chosen : tie.Then1 Inv-loop μ-loop = search in let at = chosen .before .before in
     let l = at .loop in
     let table = at .before .valuation-table in
     let a = start (at .before) .args in

@@ -46,9 +46,9 @@ loop-less c = omega arith
 
 loop-again : tie.Need-loop-again Inv-loop μ-loop
 loop-again c =
-    let row = c .before .before in
+    let at-start : tie.Start Inv-loop μ-loop = search in let row = c .before .before in
     let at = row .before .before .before .loop in
-    let a = row .before .before .before .before .args in (
+    let a = at-start .args in (
       omega arith,
       filled-more (Has (a .all) (a .accepting) (a .exchanged)) (at .out) _ (at .p) _ _ (at .inv .1) (omega arith) (c .store .ensures)
           (λ s. row .good-row .ensures s ∙ ap (λ (b : Bool). rowHas (a .all) s && turned (a .exchanged) b) (row .before .bit .ensures)),

@@ -19,8 +19,8 @@ is-empty-requires c κs = omega arith
 
 returns-2 : tie.Need-returns-2
 returns-2 c =
-    let a = c .before .before .before .before .args in
-    let pre = c .before .before .before .before .pre in
+    let at-start : tie.Start = search in let a = at-start .args in
+    let pre = at-start .pre in
     mask-none (a .table .now) (a .mask) (a .p) (a .k) (pre .0) (pre .1) (a .out .now) (pre .2) (a .into .now) (a .onto .now) _ _ (c .before .before .mask-row .ensures)
     (pre .3) (sym (c .if2 .taken) ∙ c .before .is-empty .ensures)
 
@@ -56,12 +56,13 @@ add-requires-2 c κs = omega arith
 
 returns-3 : tie.Need-returns-3
 returns-3 c =
-    let a = c .before .before .before .before .before .before .before .before .before .before .args in
-    let pre = c .before .before .before .before .before .before .before .before .before .before .pre in
+    let after-mask-row : tie.After-mask-row = search in let after-store : tie.After-store = search in
+    let a = after-mask-row .before .before .args in
+    let pre = after-mask-row .before .before .pre in
     let to : a .k + 1 - 1 ≡ a .k = omega arith in
     let from : a .p + 1 - 1 ≡ a .p = omega arith in
-    mask-more (a .table .now) (a .mask) (a .p) (a .k) (pre .0) (pre .1) (a .out .now) (pre .2) (a .into .now) (a .onto .now) _ _ (c .before .before .before .before .before .before .before .before .mask-row .ensures)
-    _ _ _ (c .before .before .before .before .store .ensures) (rw to at (c .before .before .add .ensures)) (rw from at (c .add2 .ensures))
+    mask-more (a .table .now) (a .mask) (a .p) (a .k) (pre .0) (pre .1) (a .out .now) (pre .2) (a .into .now) (a .onto .now) _ _ (after-mask-row .mask-row .ensures)
+    _ _ _ (after-store .store .ensures) (rw to at (c .before .before .add .ensures)) (rw from at (c .add2 .ensures))
 
 pub set-mask-spec : {M : Type 1} → statement M
 set-mask-spec =

@@ -52,8 +52,8 @@ loop-less c = omega arith
 
 loop-again : tie.Need-loop-again Inv-loop μ-loop
 loop-again c =
-    let read = c .before .before .before in
-    let a = read .before .before .before .before .args in
+    let at-start : tie.Start Inv-loop μ-loop = search in let read = c .before .before .before in
+    let a = at-start .args in
     let at = read .before .before .loop in (
       omega arith,
       λ s.
@@ -70,8 +70,8 @@ loop-less-2 c = omega arith
 
 loop-again-2 : tie.Need-loop-again-2 Inv-loop μ-loop
 loop-again-2 c =
-    let read = c .before .before .before in
-    let a = read .before .before .before .before .args in
+    let at-start : tie.Start Inv-loop μ-loop = search in let read = c .before .before .before in
+    let a = at-start .args in
     let at = read .before .before .loop in (
       omega arith,
       λ s.

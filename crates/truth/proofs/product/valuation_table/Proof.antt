@@ -39,7 +39,7 @@ cast-store c = omega arith
 
 store-requires : tie.Need-store-requires Inv-loop μ-loop
 store-requires c κs =
-    let v = valuations (c .before .before .before .before .before .args .v) (omega arith) in
+    let at-start : tie.Start Inv-loop μ-loop = search in let v = valuations (at-start .args .v) (omega arith) in
     omega (arith, v .0, v .1)
 
 add-w : tie.Need-add-w Inv-loop μ-loop
@@ -50,8 +50,8 @@ loop-less c = omega arith
 
 loop-again : tie.Need-loop-again Inv-loop μ-loop
 loop-again c =
-    let a = c .before .before .before .before .before .before .args in
-    let at = c .before .before .before .before .loop in
+    let at-loop : tie.At-loop Inv-loop μ-loop = search in let a = at-loop .before .before .args in
+    let at = at-loop .loop in
     let v = valuations (a .v) (omega arith) in
     let valued = Valued (a .rows .now) (a .all) (a .lines) (a .v) in
     let few : highAt (at .w) < setWords = omega (arith, v .0, v .1) in (

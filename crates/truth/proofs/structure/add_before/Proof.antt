@@ -32,22 +32,23 @@ cast-add c = omega arith
 
 add-requires : tie.Need-add-requires Inv-loop μ-loop
 add-requires c κs =
+    let at-loop : tie.At-loop Inv-loop μ-loop = search in
     let r = one-within _ _ _ (c .before .before .before .first .ensures) (c .before .before .if1 .left) in
-    let long = c .before .before .before .before .loop .inv .size ∙ c .before .before .before .before .before .pre in
+    let long = at-loop .loop .inv .size ∙ at-loop .before .pre in
     (r .0, omega (arith, r .1, long))
 
 loop-less : tie.Need-loop-less Inv-loop μ-loop
 loop-less c =
-    let n = c .before .before .before .if1 .left in
-    let f = c .before .before .before .before .first .ensures in
+    let after-first : tie.After-first Inv-loop μ-loop = search in let n = c .before .before .before .if1 .left in
+    let f = after-first .first .ensures in
     let r = one-within _ _ _ f n in
     less-falls _ _ _ (c .before .before .without .ensures) (r .0) (r .1) (one-left _ _ f n)
 
 loop-again : tie.Need-loop-again Inv-loop μ-loop
 loop-again c =
-    let n = c .before .before .before .if1 .left in
-    let f = c .before .before .before .before .first .ensures in
-    adding-next _ _ _ _ _ (c .before .before .before .before .before .loop .inv) _ _ _ (c .before .before .without .ensures) (one-left _ _ f n) (one-within _ _ _ f n .0) (c .add .ensures)
+    let after-first : tie.After-first Inv-loop μ-loop = search in let n = c .before .before .before .if1 .left in
+    let f = after-first .first .ensures in
+    adding-next _ _ _ _ _ (after-first .before .loop .inv) _ _ _ (c .before .before .without .ensures) (one-left _ _ f n) (one-within _ _ _ f n .0) (c .add .ensures)
 
 pub add-before-spec : {M : Type 1} → statement M
 add-before-spec =

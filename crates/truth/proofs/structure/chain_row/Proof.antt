@@ -16,19 +16,18 @@ use Rattle.truth.proofs.structure.chain_row.Tie as tie
 gathered : (c : tie.After-targets-along) (t : ℕ) → let start = c .before .before .before .before .before .before .before .before in let r = c .targets-along .result in let whole = within 1 membersMost t && chainLeads (start .args .m .now) (start .args .x) t in
     (r .link ≡ r .stop → (rowHas (r .row) t || rowHas (c .before .before .tail-for .result .row) t) ≡ whole) × (r .link ≢ r .stop → rowHas (r .row) t ≡ whole)
 gathered c =
-    let start = c .before .before .before .before .before .before .before .before in
-    let a = start .args in
+    let after-edges-from : tie.After-edges-from = search in let start : tie.Start = search in let a = start .args in
     let used = c .before .before .tail-for in
     let none = c .before .no-targets in
     let edges = c .before .before .before .edges in
     let small : edges .result < linksEnd = search needs in
     let of = tail-used (a .m .now) (a .tail) (used .result) (a .x) (edges .result) (start .pre) (used .ensures) in
-    chain-until (a .m .now) (used .result) (of .0) _ (edges .result) (a .x) (none .result) (c .targets-along .result) (c .before .before .before .before .edges-from .ensures) (edges .ensures) small (of .1)
+    chain-until (a .m .now) (used .result) (of .0) _ (edges .result) (a .x) (none .result) (c .targets-along .result) (after-edges-from .edges-from .ensures) (edges .ensures) small (of .1)
     (none .ensures .0) (none .ensures .1 .0) (none .ensures .1 .1) (c .targets-along .ensures)
 
 returns : tie.Need-returns
 returns c t =
-    let start = c .before .before .before .before in
+    let start : tie.Start = search in
     subst (λ y. rowHas (start .args .tail .row) t ≡ (within 1 membersMost t && chainLeads (start .args .m .now) y t)) (sym (c .before .if1 .taken)) (start .pre .leads t)
 
 edges-from-requires : tie.Need-edges-from-requires
@@ -50,7 +49,9 @@ union-requires : tie.Need-union-requires
 union-requires c κs = search needs
 
 returns-2 : tie.Need-returns-2
-returns-2 c t = c .union .ensures t ∙ gathered (c .before .before .before .before .before) t .0 (c .before .before .if2 .taken)
+returns-2 c t =
+    let after-targets-along : tie.After-targets-along = search in
+    c .union .ensures t ∙ gathered after-targets-along t .0 (c .before .before .if2 .taken)
 
 returns-3 : tie.Need-returns-3
 returns-3 c t = gathered (c .before .before .before) t .1 (c .if2 .left)

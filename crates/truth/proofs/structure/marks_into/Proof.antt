@@ -34,12 +34,11 @@ is-empty-requires c κs = search needs
 
 returns : tie.Need-returns Inv-loop μ-loop
 returns c e =
-    let at = c .before .before .before .loop in
-    let start = c .before .before .before .before .before .before .before in
-    let a = start .args in
+    let after-successor-row : tie.After-successor-row Inv-loop μ-loop = search in let at = c .before .before .before .loop in
+    let start : tie.Start Inv-loop μ-loop = search in let a = start .args in
     let d = c .before .before .difference .result in
     let none = none-passes (rowHas d) (held-in (d .low) (d .high)) (sym (c .before .is-empty .ensures) ∙ c .if1 .taken) in
-    noted-is (a .m .now) (a .mark .now) (a .s) _ (c .before .before .before .before .successor-row .ensures) (rowHas (at .left)) (at .out) (at .inv) e
+    noted-is (a .m .now) (a .mark .now) (a .s) _ (after-successor-row .successor-row .ensures) (rowHas (at .left)) (at .out) (at .inv) e
     (λ t. rest-in (rowHas (a .all) e) (rowHas (at .out) e) (start .pre .0 e t) (λ x. none e (rw (c .before .before .difference .ensures e) x)))
 
 first-requires : tie.Need-first-requires Inv-loop μ-loop
@@ -47,9 +46,9 @@ first-requires c κs = search needs
 
 returns-2 : tie.Need-returns-2 Inv-loop μ-loop
 returns-2 c =
-    let at = c .before .before .before .before .before .loop in
-    let a = c .before .before .before .before .before .before .before .before .before .args in
-    noted-end (a .m .now) (a .mark .now) (a .s) _ (c .before .before .before .before .before .before .successor-row .ensures) (rowHas (at .left)) (at .out) (at .inv)
+    let at-loop : tie.At-loop Inv-loop μ-loop = search in let at-start : tie.Start Inv-loop μ-loop = search in let at = at-loop .loop in
+    let a = at-start .args in
+    noted-end (a .m .now) (a .mark .now) (a .s) _ (at-loop .before .successor-row .ensures) (rowHas (at .left)) (at .out) (at .inv)
     (none-left _ _ (c .before .first .ensures) (c .if2 .taken))
 
 cast-with : tie.Need-cast-with Inv-loop μ-loop
@@ -69,15 +68,16 @@ without-requires c κs = search needs
 
 loop-less : tie.Need-loop-less Inv-loop μ-loop
 loop-less c =
-    let n = c .before .before .before .if2 .left in
-    let f = c .before .before .before .before .first .ensures in
+    let after-first : tie.After-first Inv-loop μ-loop = search in let n = c .before .before .before .if2 .left in
+    let f = after-first .first .ensures in
     let r = one-within _ _ _ f n in
     less-falls _ _ _ (c .without .ensures) (r .0) (r .1) (one-left _ _ f n)
 
 loop-again : tie.Need-loop-again Inv-loop μ-loop
 loop-again c =
-    let t = one-left _ _ (c .before .before .before .before .first .ensures) (c .before .before .before .if2 .left) in
-    noted-next _ _ _ _ _ _ _ (c .before .before .before .before .before .before .before .before .loop .inv) t (c .without .ensures) (c .before .with .ensures)
+    let after-first : tie.After-first Inv-loop μ-loop = search in let at-loop : tie.At-loop Inv-loop μ-loop = search in
+    let t = one-left _ _ (after-first .first .ensures) (c .before .before .before .if2 .left) in
+    noted-next _ _ _ _ _ _ _ (at-loop .loop .inv) t (c .without .ensures) (c .before .with .ensures)
 
 pub marks-into-spec : {M : Type 1} → statement M
 marks-into-spec =

@@ -35,8 +35,8 @@ loop-less c = omega arith
 
 loop-again : tie.Need-loop-again Inv-loop μ-loop
 loop-again c =
-    let a = c .before .before .before .before .before .args in
-    let l = c .before .before .before .before .loop in
+    let at-loop : tie.At-loop Inv-loop μ-loop = search in let a = at-loop .before .args in
+    let l = at-loop .loop in
     let row = c .before .before .load in
     let is : (t : ℕ) → rowHas (row .result) t ≡ rowsHas (a .next .now) (l .s) t = λ t. rw (row .ensures .0, row .ensures .1) in
     let added = c .add-before .ensures in

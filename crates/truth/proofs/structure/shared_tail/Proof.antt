@@ -16,7 +16,7 @@ no-tail-requires : tie.Need-no-tail-requires
 no-tail-requires c κs = search needs
 
 returns : tie.Need-returns
-returns c = no-tail-of (c .before .before .before .before .before .args .m .now) _ (c .no-tail .ensures)
+returns c = let at-start : tie.Start = search in no-tail-of (at-start .args .m .now) _ (c .no-tail .ensures)
 
 no-tail-requires-2 : tie.Need-no-tail-requires-2
 no-tail-requires-2 c κs = search needs
@@ -28,8 +28,10 @@ cast-t7 : tie.Need-cast-t7
 cast-t7 c = search needs
 
 returns-2 : tie.Need-returns-2
-returns-2 c = record {
-  where-from = inr (c .before .before .before .before .before .before .pre);
+returns-2 c =
+    let at-start : tie.Start = search in
+    record {
+  where-from = inr (at-start .pre);
   there = omega (arith, c .before .before .before .edges .ensures, c .before .before .if1 .left);
   leads = c .chain-row .ensures;
 }

@@ -39,20 +39,21 @@ loop-less c = omega arith
 
 loop-again : tie.Need-loop-again Inv-loop μ-loop
 loop-again c =
-    let a = c .before .before .before .before .before .before .before .before .args in
-    (omega arith, λ i. c .with .ensures i ∙ sofar-yes (signalAt (a .m .now) (a .i)) i _ _ (c .before .before .before .before .loop .inv .1 i) (sym (c .before .before .signal-at .ensures) ∙ c .before .if1 .taken))
+    let at-start : tie.Start Inv-loop μ-loop = search in let at-loop : tie.At-loop Inv-loop μ-loop = search in let a = at-start .args in
+    (omega arith, λ i. c .with .ensures i ∙ sofar-yes (signalAt (a .m .now) (a .i)) i _ _ (at-loop .loop .inv .1 i) (sym (c .before .before .signal-at .ensures) ∙ c .before .if1 .taken))
 
 loop-less-2 : tie.Need-loop-less-2 Inv-loop μ-loop
 loop-less-2 c = omega arith
 
 loop-again-2 : tie.Need-loop-again-2 Inv-loop μ-loop
 loop-again-2 c =
-    let a = c .before .before .before .before .before .before .before .args in
+    let at-start : tie.Start Inv-loop μ-loop = search in let a = at-start .args in
     (omega arith, λ i. sofar-no (signalAt (a .m .now) (a .i)) i _ _ (c .before .before .before .loop .inv .1 i) (sym (c .before .signal-at .ensures) ∙ c .if1 .left))
 
 returns : tie.Need-returns Inv-loop μ-loop
 returns c i =
-    let e : c .before .loop .s ≡ nodes (c .before .before .before .before .before .args .m .now) = omega (arith, c .before .before .before .nodes .ensures) in
+    let at-start : tie.Start Inv-loop μ-loop = search in
+    let e : c .before .loop .s ≡ nodes (at-start .args .m .now) = omega (arith, c .before .before .before .nodes .ensures) in
     rw (← e) (c .before .loop .inv .1 i)
 
 pub signal-row-spec : {M : Type 1} → statement M

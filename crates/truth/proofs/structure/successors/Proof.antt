@@ -53,8 +53,8 @@ loop-less c = omega arith
 
 loop-again : tie.Need-loop-again Inv-loop μ-loop
 loop-again c =
-    let a = c .before .before .before .before .before .before .before .before .before .args in
-    let at = c .before .before .before .before .before .before .loop in
+    let at-start : tie.Start Inv-loop μ-loop = search in let at-loop : tie.At-loop Inv-loop μ-loop = search in let a = at-start .args in
+    let at = at-loop .loop in
     let few : at .s < tableRows = search needs in
     filled-more (Next (a .m .now)) (at .out) _ (at .s) _ _ (at .inv) (omega arith) (c .store .ensures) (c .before .before .successor-row .ensures)
 

@@ -30,9 +30,9 @@ cast-line-row c = omega arith
 
 line-row-requires : tie.Need-line-row-requires Inv-loop μ-loop
 line-row-requires c κs =
-    let f = c .before .first .ensures in
+    let at-start : tie.Start Inv-loop μ-loop = search in let f = c .before .first .ensures in
     let n = c .if1 .left in
-    (one-within _ _ _ f n .0, c .before .before .before .before .before .pre _ (c .before .before .loop .inv .fewer _ (one-left _ _ f n)))
+    (one-within _ _ _ f n .0, at-start .pre _ (c .before .before .loop .inv .fewer _ (one-left _ _ f n)))
 
 union-requires : tie.Need-union-requires Inv-loop μ-loop
 union-requires c κs = omega arith
@@ -42,16 +42,16 @@ without-requires c κs = omega arith
 
 loop-less : tie.Need-loop-less Inv-loop μ-loop
 loop-less c =
-    let n = c .before .before .before .if1 .left in
-    let f = c .before .before .before .before .first .ensures in
+    let after-first : tie.After-first Inv-loop μ-loop = search in let n = c .before .before .before .if1 .left in
+    let f = after-first .first .ensures in
     let r = one-within _ _ _ f n in
     less-falls _ _ _ (c .without .ensures) (r .0) (r .1) (one-left _ _ f n)
 
 loop-again : tie.Need-loop-again Inv-loop μ-loop
 loop-again c =
-    let l = c .before .before .line-row .ensures in
-    let t = one-left _ _ (c .before .before .before .before .first .ensures) (c .before .before .before .if1 .left) in
-    gathered-next _ _ _ _ _ _ _ _ _ (c .before .before .before .before .before .loop .inv) t (c .without .ensures) (l .0) (l .1) (c .before .union .ensures)
+    let after-first : tie.After-first Inv-loop μ-loop = search in let l = c .before .before .line-row .ensures in
+    let t = one-left _ _ (after-first .first .ensures) (c .before .before .before .if1 .left) in
+    gathered-next _ _ _ _ _ _ _ _ _ (after-first .before .loop .inv) t (c .without .ensures) (l .0) (l .1) (c .before .union .ensures)
 
 pub together-spec : {M : Type 1} → statement M
 together-spec =

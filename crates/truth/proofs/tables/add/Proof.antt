@@ -21,9 +21,9 @@ same-length c = search needs
 
 returns : tie.Need-returns
 returns c =
-    let a = c .before .before .before .before .before .before .before .before .args in
-    let row = c .before .before .before .before .before .line-row .ensures in
-    let fits : 2 * (a .j - 1) + 1 < length (a .rows .now) = omega (arith, c .before .before .before .before .before .before .before .before .pre) in
+    let at-start : tie.Start = search in let after-line-row : tie.After-line-row = search in let a = at-start .args in
+    let row = after-line-row .line-row .ensures in
+    let fits : 2 * (a .j - 1) + 1 < length (a .rows .now) = omega (arith, at-start .pre) in
     joined (a .rows .now) _ (a .j - 1) (a .s) _ _ fits (c .before .before .set-line-row .ensures) (λ i. rw (row .0, row .1) at (c .before .before .before .with .ensures i))
 
 pub add-spec : {M : Type 1} → statement M

@@ -26,7 +26,7 @@ onward-requires c κs =
 
 returns : tie.Need-returns
 returns c =
-    let pre = c .before .before .before .before .pre in
+    let at-start : tie.Start = search in let pre = at-start .pre in
     let has = lasting (c .before .before) ∙ c .before .if1 .taken in
     advances-onward (pre .0 .2) _ _ (pre .1) _ _ (c .onward .ensures .0) has (c .onward .ensures .1)
 
@@ -39,7 +39,7 @@ sooner-requires c κs =
 
 returns-2 : tie.Need-returns-2
 returns-2 c =
-    let pre = c .before .before .before .before .pre in
+    let at-start : tie.Start = search in let pre = at-start .pre in
     let has = lasting (c .before .before) ∙ c .before .if1 .left in
     let r = c .sooner .ensures in
     advances-sooner (pre .0 .2) _ _ (pre .1) _ _ (r .0) has (r .1) (r .2)

@@ -46,8 +46,8 @@ element-copy-out-if2 c = omega (arith, one-within _ _ _ (c .before .first .ensur
 
 returns-2 : tie.Need-returns-2 Inv-loop μ-loop
 returns-2 c =
-    let a = c .before .before .before .before .before .args in
-    left-found _ _ (λ v. ltb (timeOf (a .times .now) (a .k) v) (a .time)) _ (c .before .before .before .before .loop .inv) (c .before .before .before .first .ensures) (c .before .before .if1 .left)
+    let at-loop : tie.At-loop Inv-loop μ-loop = search in let a = at-loop .before .args in
+    left-found _ _ (λ v. ltb (timeOf (a .times .now) (a .k) v) (a .time)) _ (at-loop .loop .inv) (c .before .before .before .first .ensures) (c .before .before .if1 .left)
     (lt-ltb _ _ (c .if2 .taken))
 
 without-requires : tie.Need-without-requires Inv-loop μ-loop
@@ -55,15 +55,15 @@ without-requires c κs = omega arith
 
 loop-less : tie.Need-loop-less Inv-loop μ-loop
 loop-less c =
-    let first = c .before .before .before .before .first .ensures in
+    let after-first : tie.After-first Inv-loop μ-loop = search in let first = after-first .first .ensures in
     let n = c .before .before .before .if1 .left in
     let r = one-within _ _ _ first n in
     less-falls _ _ _ (c .without .ensures) (r .0) (r .1) (one-left _ _ first n)
 
 loop-again : tie.Need-loop-again Inv-loop μ-loop
 loop-again c =
-    let a = c .before .before .before .before .before .before .args in
-    left-out _ _ (λ v. ltb (timeOf (a .times .now) (a .k) v) (a .time)) _ (c .before .before .before .before .before .loop .inv) (c .before .before .before .before .first .ensures) (c .before .before .before .if1 .left)
+    let after-first : tie.After-first Inv-loop μ-loop = search in let a = after-first .before .before .args in
+    left-out _ _ (λ v. ltb (timeOf (a .times .now) (a .k) v) (a .time)) _ (after-first .before .loop .inv) (after-first .first .ensures) (c .before .before .before .if1 .left)
     _ (c .without .ensures) (le-ltb _ _ (c .before .if2 .left))
 
 pub earlier-spec : {M : Type 1} → statement M

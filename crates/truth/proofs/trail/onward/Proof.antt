@@ -17,12 +17,12 @@ abbrev μ-loop : tie.MeasureT-loop
 μ-loop allow next t set p u to k₀ k = t - k
 
 abbrev start : tie.After-intersection Inv-loop μ-loop → tie.Start Inv-loop μ-loop
-start c = c .before .before .before .before .before
+start c = search
 
 -- the nodes of the set at position k that an edge leads to
 ahead : (c : tie.After-intersection Inv-loop μ-loop) (i : ℕ) → rowHas (c .intersection .result) i ≡ (edgeIn (start c .args .next .now) (start c .args .u) i && rowsHas (start c .args .set .now) (c .before .before .before .loop .k) i)
 ahead c i =
-    let to = c .before .before .before .before .load .ensures in
+    let after-load : tie.After-load Inv-loop μ-loop = search in let to = after-load .load .ensures in
     let there = c .before .load2 .ensures in
     rw (to .0, to .1, there .0, there .1) at (c .intersection .ensures i)
 
@@ -61,12 +61,12 @@ cast-t21 c = omega arith
 
 returns : tie.Need-returns Inv-loop μ-loop
 returns c =
-    let at = c .before .before .before .before .before in
+    let after-first : tie.After-first Inv-loop μ-loop = search in let at : tie.After-intersection Inv-loop μ-loop = search in
     let a = start at .args in
     let may = c .before .before .load3 .ensures in
-    leads-to (a .allow .now) (a .next .now) (a .t) (a .p) (a .u) (a .set .now) (at .before .before .before .loop .k) (rowHas (at .intersection .result)) (ahead at) (c .before .before .before .before .first .result) (at .before .before .loop-test .taken)
+    leads-to (a .allow .now) (a .next .now) (a .t) (a .p) (a .u) (a .set .now) (at .before .before .before .loop .k) (rowHas (at .intersection .result)) (ahead at) (after-first .first .result) (at .before .before .loop-test .taken)
     (rw (may .0, may .1) at (sym (c .before .has .ensures) ∙ c .if2 .taken))
-    (rw (c .before .before .before .before .first .ensures .found (c .before .before .before .if1 .taken)) tt)
+    (rw (after-first .first .ensures .found (c .before .before .before .if1 .taken)) tt)
 
 add-k : tie.Need-add-k Inv-loop μ-loop
 add-k c = omega arith

@@ -72,16 +72,17 @@ cast-t30 c = omega arith
 
 returns : tie.Need-returns Inv-loop μ-loop
 returns c =
-    let a = c .before .before .before .before .before .before .before .before .before .before .before .args in
-    let k = c .before .before .before .before .before .before .before .before .loop .k in
+    let at-start : tie.Start Inv-loop μ-loop = search in let in-loop : tie.In-loop Inv-loop μ-loop = search in
+    let then1 : tie.Then1 Inv-loop μ-loop = search in let a = at-start .args in
+    let k = in-loop .before .loop .k in
     let v = c .before .earlier .result in
     let row = rowHas (c .before .before .intersection .result) in
-    let to = c .before .before .before .before .before .before .before .before .before .load .ensures in
-    let may = c .before .before .before .before .before .before .load2 .ensures in
+    let to = in-loop .before .before .load .ensures in
+    let may = then1 .before .before .load2 .ensures in
     let there = c .before .before .before .load3 .ensures in
     let found : T (row v && ltb (timeOf (a .times .now) k v) (timeOf (a .times .now) (a .p) (a .u))) = rw (c .before .earlier .ensures .found (c .if2 .taken)) tt in
-    let r = leads-to (a .allow .now) (a .next .now) (a .t) (a .p) (a .u) (a .set .now) k row (λ i. rw (to .0, to .1, there .0, there .1) at (c .before .before .intersection .ensures i)) v (c .before .before .before .before .before .before .before .loop-test .taken)
-    (rw (may .0, may .1) at (sym (c .before .before .before .before .before .has .ensures) ∙ c .before .before .before .before .if1 .taken)) (and-left (row v) _ found) in
+    let r = leads-to (a .allow .now) (a .next .now) (a .t) (a .p) (a .u) (a .set .now) k row (λ i. rw (to .0, to .1, there .0, there .1) at (c .before .before .intersection .ensures i)) v (in-loop .loop-test .taken)
+    (rw (may .0, may .1) at (sym (then1 .before .has .ensures) ∙ then1 .if1 .taken)) (and-left (row v) _ found) in
     (r .0, r .1, ltb→lt _ _ (and-right (row v) _ found))
 
 add-k : tie.Need-add-k Inv-loop μ-loop
@@ -92,9 +93,9 @@ loop-less c = omega arith
 
 loop-again : tie.Need-loop-again Inv-loop μ-loop
 loop-again c =
-    let a = c .before .before .before .before .before .before .before .args in
-    let l = c .before .before .before .before .loop in
-    let to = c .before .before .before .before .before .load .ensures in
+    let at-start : tie.Start Inv-loop μ-loop = search in let at-loop : tie.At-loop Inv-loop μ-loop = search in let a = at-start .args in
+    let l = at-loop .loop in
+    let to = at-loop .before .load .ensures in
     let may = c .before .before .load2 .ensures in
     none-next _ _ _ _ _ _ _ (l .inv) (c .if1 .came)
     (λ w v s x. rw (w .3 .ensures .none (w .4 .left) v) at
@@ -104,7 +105,7 @@ loop-again c =
 
 returns-2 : tie.Need-returns-2 Inv-loop μ-loop
 returns-2 c =
-    let w = c .before .before .before .before .pre .4 in
+    let at-start : tie.Start Inv-loop μ-loop = search in let w = at-start .pre .4 in
     absurd (c .before .loop .inv (w .0) (w .1) (omega arith) (w .2) (w .3, w .4))
 
 pub sooner-spec : {M : Type 1} → statement M

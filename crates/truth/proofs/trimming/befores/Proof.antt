@@ -39,9 +39,10 @@ loop-less c = omega arith
 
 loop-again : tie.Need-loop-again Inv-loop μ-loop
 loop-again c =
-    let a = c .before .before .before .before .before .before .before .args in
-    let at = c .before .before .before .before .before .before .loop in
-    let row = c .before .before .before .before .load .ensures in
+    let at-start : tie.Start Inv-loop μ-loop = search in let after-load : tie.After-load Inv-loop μ-loop = search in
+    let a = at-start .args in
+    let at = after-load .before .before .loop in
+    let row = after-load .load .ensures in
     let pre = c .before .before .together in
     let here : (s : ℕ) → T (rowHas (pre .result) s) ↔ Before (a .back .now) (rowsHas (a .xs .now) (at .k)) s = rw (row .0, row .1) at (pre .ensures) in
     (search needs, filled-more _ (at .out) _ (at .k) _ _ (at .inv .1) (omega arith) (c .store .ensures) here)

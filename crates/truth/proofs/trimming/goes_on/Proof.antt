@@ -18,9 +18,9 @@ abbrev μ-loop : tie.MeasureT-loop
 -- the member that is found
 few : (c : tie.Else1 Inv-loop μ-loop) → (1 ≤ c .before .first .result) × (c .before .first .result ≤ positionsMost)
 few c =
-    let f = c .before .first .ensures in
+    let at-start : tie.Start Inv-loop μ-loop = search in let f = c .before .first .ensures in
     let n = c .if1 .left in
-    (one-within _ _ _ f n .0, c .before .before .before .before .pre .1 _ (c .before .before .loop .inv .visited .fewer _ (one-left _ _ f n)))
+    (one-within _ _ _ f n .0, at-start .pre .1 _ (c .before .before .loop .inv .visited .fewer _ (one-left _ _ f n)))
 
 empty-requires : tie.Need-empty-requires Inv-loop μ-loop
 empty-requires c κs = omega arith
@@ -50,7 +50,7 @@ add-load : tie.Need-add-load Inv-loop μ-loop
 add-load c = omega arith
 
 load-requires : tie.Need-load-requires Inv-loop μ-loop
-load-requires c κs = omega (arith, few (c .before), c .before .before .before .before .before .pre .0)
+load-requires c κs = let at-start : tie.Start Inv-loop μ-loop = search in omega (arith, few (c .before), at-start .pre .0)
 
 load-requires-2 : tie.Need-load-requires-2 Inv-loop μ-loop
 load-requires-2 c κs = omega (arith, few (c .before .before))
@@ -63,17 +63,18 @@ union-requires c κs = omega arith
 
 loop-less : tie.Need-loop-less Inv-loop μ-loop
 loop-less c =
-    let n = c .before .before .before .before .before .if1 .left in
-    let f = c .before .before .before .before .before .before .first .ensures in
+    let after-without : tie.After-without Inv-loop μ-loop = search in let n = after-without .before .if1 .left in
+    let f = after-without .before .before .first .ensures in
     let r = one-within _ _ _ f n in
-    less-falls _ _ _ (c .before .before .before .before .without .ensures) (r .0) (r .1) (one-left _ _ f n)
+    less-falls _ _ _ (after-without .without .ensures) (r .0) (r .1) (one-left _ _ f n)
 
 loop-again : tie.Need-loop-again Inv-loop μ-loop
 loop-again c =
+    let at-loop : tie.At-loop Inv-loop μ-loop = search in let after-without : tie.After-without Inv-loop μ-loop = search in
     let may = c .before .before .before .load .ensures in
     let there = c .before .before .load2 .ensures in
-    passing-next _ _ _ _ _ _ (c .before .before .before .before .before .before .before .loop .inv) _ _ (rowHas (c .before .intersection .result)) _ _ _ _ _ (one-left _ _ (c .before .before .before .before .before .before .first .ensures) (c .before .before .before .before .before .if1 .left))
-    (c .before .before .before .before .without .ensures) (c .union .ensures) (c .before .intersection .ensures) (may .0) (may .1) (there .0) (there .1)
+    passing-next _ _ _ _ _ _ (at-loop .loop .inv) _ _ (rowHas (c .before .intersection .result)) _ _ _ _ _ (one-left _ _ (after-without .before .before .first .ensures) (after-without .before .if1 .left))
+    (after-without .without .ensures) (c .union .ensures) (c .before .intersection .ensures) (may .0) (may .1) (there .0) (there .1)
 
 pub goes-on-spec : {M : Type 1} → statement M
 goes-on-spec =

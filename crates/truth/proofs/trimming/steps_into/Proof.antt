@@ -49,56 +49,58 @@ add-load : tie.Need-add-load Inv-loop μ-loop
 add-load c = omega arith
 
 load-requires : tie.Need-load-requires Inv-loop μ-loop
-load-requires c κs = omega (arith, few (c .before), c .before .before .before .before .pre .0)
+load-requires c κs = let at-start : tie.Start Inv-loop μ-loop = search in omega (arith, few (c .before), at-start .pre .0)
 
 has-requires : tie.Need-has-requires Inv-loop μ-loop
 has-requires c κs = omega arith
 
 load-requires-2 : tie.Need-load-requires-2 Inv-loop μ-loop
-load-requires-2 c κs = omega (arith, few (c .before .before .before .before))
+load-requires-2 c κs = let else1 : tie.Else1 Inv-loop μ-loop = search in omega (arith, few else1)
 
 meets-requires : tie.Need-meets-requires Inv-loop μ-loop
 meets-requires c κs = omega arith
 
 returns-2 : tie.Need-returns-2 Inv-loop μ-loop
 returns-2 c =
-    let a = c .before .before .before .before .before .before .before .before .before .before .args in
-    let u = c .before .before .before .before .before .before .before .before .first .result in
-    let may = c .before .before .before .before .before .load .ensures in
+    let at-start : tie.Start Inv-loop μ-loop = search in let else1 : tie.Else1 Inv-loop μ-loop = search in
+    let after-has : tie.After-has Inv-loop μ-loop = search in let a = at-start .args in
+    let u = else1 .before .first .result in
+    let may = after-has .before .load .ensures in
     let there = c .before .before .load2 .ensures in
-    let met = meeting-yes (a .allow .now) (a .xs .now) (a .to .low) (a .to .high) (a .p) (a .s) (u - 1) _ _ _ (may .0) (may .1) (c .before .before .before .before .has .ensures) _ _ _ (there .0) (there .1) (c .before .meets .ensures) (c .before .before .before .if2 .taken) (c .if3 .taken) in
-    (λ _. (u, c .before .before .before .before .before .before .before .before .before .loop .inv .fewer u (one-left _ _ (c .before .before .before .before .before .before .before .before .first .ensures) (c .before .before .before .before .before .before .before .if1 .left)), met), λ _. tt)
+    let met = meeting-yes (a .allow .now) (a .xs .now) (a .to .low) (a .to .high) (a .p) (a .s) (u - 1) _ _ _ (may .0) (may .1) (after-has .has .ensures) _ _ _ (there .0) (there .1) (c .before .meets .ensures) (c .before .before .before .if2 .taken) (c .if3 .taken) in
+    (λ _. (u, else1 .before .before .loop .inv .fewer u (one-left _ _ (else1 .before .first .ensures) (else1 .if1 .left)), met), λ _. tt)
 
 loop-less : tie.Need-loop-less Inv-loop μ-loop
 loop-less c =
-    let n = c .before .before .before .before .before .before .before .if1 .left in
-    let f = c .before .before .before .before .before .before .before .before .first .ensures in
+    let after-without : tie.After-without Inv-loop μ-loop = search in let n = after-without .before .if1 .left in
+    let f = after-without .before .before .first .ensures in
     let r = one-within _ _ _ f n in
-    less-falls _ _ _ (c .before .before .before .before .before .before .without .ensures) (r .0) (r .1) (one-left _ _ f n)
+    less-falls _ _ _ (after-without .without .ensures) (r .0) (r .1) (one-left _ _ f n)
 
 loop-again : tie.Need-loop-again Inv-loop μ-loop
 loop-again c =
-    let a = c .before .before .before .before .before .before .before .before .before .before .args in
-    let u = c .before .before .before .before .before .before .before .before .first .result in
-    let may = c .before .before .before .before .before .load .ensures in
+    let after-first : tie.After-first Inv-loop μ-loop = search in let after-has : tie.After-has Inv-loop μ-loop = search in
+    let a = after-first .before .before .args in
+    let u = after-first .first .result in
+    let may = after-has .before .load .ensures in
     let there = c .before .before .load2 .ensures in
-    let not-met = meeting-not (a .allow .now) (a .xs .now) (a .to .low) (a .to .high) (a .p) (a .s) (u - 1) _ _ _ (may .0) (may .1) (c .before .before .before .before .has .ensures) _ _ _ (there .0) (there .1) (c .before .meets .ensures) (c .if3 .left) in
-    visited-next _ _ _ (c .before .before .before .before .before .before .before .before .before .loop .inv) _ _ u (c .before .before .before .before .before .before .without .ensures) (λ v y. y) not-met
+    let not-met = meeting-not (a .allow .now) (a .xs .now) (a .to .low) (a .to .high) (a .p) (a .s) (u - 1) _ _ _ (may .0) (may .1) (after-has .has .ensures) _ _ _ (there .0) (there .1) (c .before .meets .ensures) (c .if3 .left) in
+    visited-next _ _ _ (after-first .before .loop .inv) _ _ u (after-has .before .before .without .ensures) (λ v y. y) not-met
 
 loop-less-2 : tie.Need-loop-less-2 Inv-loop μ-loop
 loop-less-2 c =
-    let n = c .before .before .before .before .if1 .left in
-    let f = c .before .before .before .before .before .first .ensures in
+    let else1 : tie.Else1 Inv-loop μ-loop = search in let n = else1 .if1 .left in
+    let f = else1 .before .first .ensures in
     let r = one-within _ _ _ f n in
     less-falls _ _ _ (c .before .before .before .without .ensures) (r .0) (r .1) (one-left _ _ f n)
 
 loop-again-2 : tie.Need-loop-again-2 Inv-loop μ-loop
 loop-again-2 c =
-    let a = c .before .before .before .before .before .before .before .args in
-    let u = c .before .before .before .before .before .first .result in
+    let after-first : tie.After-first Inv-loop μ-loop = search in let a = after-first .before .before .args in
+    let u = after-first .first .result in
     let may = c .before .before .load .ensures in
     let not-met = allowed-not (a .allow .now) (a .xs .now) (a .to .low) (a .to .high) (a .p) (a .s) (u - 1) _ _ _ (may .0) (may .1) (c .before .has .ensures) (c .if2 .left) in
-    visited-next _ _ _ (c .before .before .before .before .before .before .loop .inv) _ _ u (c .before .before .before .without .ensures) (λ v y. y) not-met
+    visited-next _ _ _ (after-first .before .loop .inv) _ _ u (c .before .before .before .without .ensures) (λ v y. y) not-met
 
 pub steps-into-spec : {M : Type 1} → statement M
 steps-into-spec =

@@ -21,27 +21,27 @@ meets-requires c κs = omega arith
 
 returns : tie.Need-returns
 returns c =
-    let a = c .before .before .before .before .args in
-    let pre = c .before .before .before .before .pre in
+    let at-start : tie.Start = search in let a = at-start .args in
+    let pre = at-start .pre in
     let to = c .before .before .before .load .ensures in
     let there = c .before .before .load2 .ensures in
     let on = meets-onward (a .allow .now) (a .next .now) (a .xs .now) (a .t) (a .p) (a .s) _ _ (to .0) (to .1) (a .p2) _ _ _ (pre .1) (pre .5) (there .0) (there .1) (c .before .meets .ensures) (c .if1 .taken) in
     (λ _. on, λ _. tt)
 
 load-requires-3 : tie.Need-load-requires-3
-load-requires-3 c κs = omega (arith, c .before .before .before .before .pre .0, c .before .before .before .before .pre .2)
+load-requires-3 c κs = let at-start : tie.Start = search in omega (arith, at-start .pre .0, at-start .pre .2)
 
 steps-into-requires : tie.Need-steps-into-requires
 steps-into-requires c κs =
-    let pre = c .before .before .before .before .before .pre in
+    let at-start : tie.Start = search in let pre = at-start .pre in
     let on = c .load3 .ensures in
     (omega (arith, pre .0, pre .2), λ u t. omega (arith, pre .2, pre .6 .few _ u (rw (on .0, on .1) at t)))
 
 returns-2 : tie.Need-returns-2
 returns-2 c =
-    let a = c .before .before .before .before .before .before .args in
-    let pre = c .before .before .before .before .before .before .pre in
-    let to = c .before .before .before .before .before .load .ensures in
+    let after-load : tie.After-load = search in let a = after-load .before .args in
+    let pre = after-load .before .pre in
+    let to = after-load .load .ensures in
     let on = c .before .load3 .ensures in
     let is = rw (on .0, on .1) at (c .steps-into .ensures) in
     let meeting = Meeting (a .allow .now) (a .xs .now) _ _ (a .p) (a .s) in (

@@ -35,7 +35,7 @@ without-requires c κs = omega arith
 
 steps-on-requires : tie.Need-steps-on-requires Inv-loop μ-loop
 steps-on-requires c κs =
-    let pre = c .before .before .before .before .before .pre in
+    let at-start : tie.Start Inv-loop μ-loop = search in let pre = at-start .pre in
     let n = c .before .if1 .left in
     let f = c .before .before .first .ensures in
     let r = one-within _ _ _ f n in
@@ -46,34 +46,34 @@ with-requires c κs = omega arith
 
 loop-less : tie.Need-loop-less Inv-loop μ-loop
 loop-less c =
-    let n = c .before .before .before .before .if1 .left in
-    let f = c .before .before .before .before .before .first .ensures in
+    let else1 : tie.Else1 Inv-loop μ-loop = search in let n = else1 .if1 .left in
+    let f = else1 .before .first .ensures in
     let r = one-within _ _ _ f n in
     less-falls _ _ _ (c .before .before .before .without .ensures) (r .0) (r .1) (one-left _ _ f n)
 
 loop-again : tie.Need-loop-again Inv-loop μ-loop
 loop-again c =
-    let n = c .before .before .before .before .if1 .left in
-    let f = c .before .before .before .before .before .first .ensures in
+    let else1 : tie.Else1 Inv-loop μ-loop = search in let n = else1 .if1 .left in
+    let f = else1 .before .first .ensures in
     let r = one-within _ _ _ f n in
     let on = c .before .before .steps-on in
     let no : on .result ≡ false = not-true (on .result) (c .before .if2 .taken) in
-    sorted-no _ _ _ _ _ _ (c .before .before .before .before .before .before .loop .inv) (one-left _ _ f n) (c .before .before .before .without .ensures) _ (c .with .ensures) (r .0) (r .1)
+    sorted-no _ _ _ _ _ _ (else1 .before .before .loop .inv) (one-left _ _ f n) (c .before .before .before .without .ensures) _ (c .with .ensures) (r .0) (r .1)
     (λ o. rw no at (on .ensures .1 o))
 
 loop-less-2 : tie.Need-loop-less-2 Inv-loop μ-loop
 loop-less-2 c =
-    let n = c .before .before .before .if1 .left in
-    let f = c .before .before .before .before .first .ensures in
+    let after-first : tie.After-first Inv-loop μ-loop = search in let n = c .before .before .before .if1 .left in
+    let f = after-first .first .ensures in
     let r = one-within _ _ _ f n in
     less-falls _ _ _ (c .before .before .without .ensures) (r .0) (r .1) (one-left _ _ f n)
 
 loop-again-2 : tie.Need-loop-again-2 Inv-loop μ-loop
 loop-again-2 c =
-    let on = c .before .steps-on in
+    let after-first : tie.After-first Inv-loop μ-loop = search in let on = c .before .steps-on in
     let yes : on .result ≡ true = not-false (on .result) (c .if2 .left) in
-    let t = one-left _ _ (c .before .before .before .before .first .ensures) (c .before .before .before .if1 .left) in
-    sorted-yes _ _ _ _ _ _ (c .before .before .before .before .before .loop .inv) t (c .before .before .without .ensures) (on .ensures .0 (rw yes tt))
+    let t = one-left _ _ (after-first .first .ensures) (c .before .before .before .if1 .left) in
+    sorted-yes _ _ _ _ _ _ (after-first .before .loop .inv) t (c .before .before .without .ensures) (on .ensures .0 (rw yes tt))
 
 pub stuck-spec : {M : Type 1} → statement M
 stuck-spec =

@@ -29,18 +29,18 @@ store-requires-2 c κs = omega arith
 
 returns : tie.Need-returns
 returns c =
-    let start = c .before .before .before .before .before .before .before .before .before .before in
+    let after-load : tie.After-load = search in let after-store : tie.After-store = search in let start : tie.Start = search in
     let a = start .args in
-    let row = c .before .before .before .before .before .before .before .before .load .ensures in
+    let row = after-load .load .ensures in
     let others = c .before .before .before .load2 .ensures in
-    let d = c .before .before .before .before .before .before .difference in
+    let d = after-store .before .difference in
     let u = c .before .union in
     let kept : (s : ℕ) → rowHas (d .result) s ≡ (rowsHas (a .xs .now) (a .p) s && not (rowHas (a .lost) s)) = λ s. rw (row .0, row .1) at (d .ensures s) in
     let more : (s : ℕ) → rowHas (u .result) s ≡ (rowsHas (a .gone .now) (a .p) s || rowHas (a .lost) s) = λ s. rw (others .0, others .1) at (u .ensures s) in
     let pre = start .pre in
     let lx : 2 * a .p + 1 < length (a .xs .now) = omega (arith, pre .0, pre .1) in
     let lg : 2 * a .p + 1 < length (a .gone .now) = omega (arith, pre .0, pre .2) in
-    rw (c .before .before .before .before .before .store .ensures, c .store2 .ensures) (taken (a .xs .now) (a .gone .now) (a .p) _ _ _ _ (rowHas (a .lost)) lx lg kept more)
+    rw (after-store .store .ensures, c .store2 .ensures) (taken (a .xs .now) (a .gone .now) (a .p) _ _ _ _ (rowHas (a .lost)) lx lg kept more)
 
 pub take-out-spec : {M : Type 1} → statement M
 take-out-spec =

@@ -28,17 +28,17 @@ loop-holds c = (false, trimmed-idle)
 
 trim-round-requires : tie.Need-trim-round-requires Inv-loop μ-loop
 trim-round-requires c κs =
-    let first = c .before .before .before .trim-first .ensures in
+    let at-start : tie.Start Inv-loop μ-loop = search in let first = c .before .before .before .trim-first .ensures in
     let g = c .before .before .loop .inv .1 in
-    let long : length (c .before .before .before .before .before .before .args .xs) ≡ setWords = search needs in
-    (search needs, g .shrunk .size ∙ first .0 .size ∙ long, g .shrunk .size-gone ∙ first .1, c .before .before .before .before .before .before .pre .1, c .before .before .before .before .before .before .pre .2)
+    let long : length (at-start .args .xs) ≡ setWords = search needs in
+    (search needs, g .shrunk .size ∙ first .0 .size ∙ long, g .shrunk .size-gone ∙ first .1, at-start .pre .1, at-start .pre .2)
 
 returns : tie.Need-returns Inv-loop μ-loop
 returns c =
-    let r = c .before .trim-round in
+    let at-loop : tie.At-loop Inv-loop μ-loop = search in let r = c .before .trim-round in
     let e : r .result ≡ false = not-true (r .result) (c .if1 .taken) in
-    let g = trimmed-no (c .before .before .before .before .loop .inv .1) (r .ensures .0) e in
-    λ n tr up. greatest (c .before .before .before .before .before .trim-first .ensures .0) g (r .ensures .1 e) n tr up
+    let g = trimmed-no (at-loop .loop .inv .1) (r .ensures .0) e in
+    λ n tr up. greatest (at-loop .before .trim-first .ensures .0) g (r .ensures .1 e) n tr up
 
 loop-less : tie.Need-loop-less Inv-loop μ-loop
 loop-less c =
@@ -47,8 +47,8 @@ loop-less c =
 
 loop-again : tie.Need-loop-again Inv-loop μ-loop
 loop-again c =
-    let r = c .before .trim-round in
-    (true, trimmed-yes (c .before .before .before .before .loop .inv .1) (r .ensures .0) (not-false (r .result) (c .if1 .left)))
+    let at-loop : tie.At-loop Inv-loop μ-loop = search in let r = c .before .trim-round in
+    (true, trimmed-yes (at-loop .loop .inv .1) (r .ensures .0) (not-false (r .result) (c .if1 .left)))
 
 pub trim-spec : {M : Type 1} → statement M
 trim-spec =

@@ -24,8 +24,8 @@ loop-holds c = (search needs, c .before .before .pre .2, started-none (c .before
 
 trim-first-row-requires : tie.Need-trim-first-row-requires Inv-loop μ-loop
 trim-first-row-requires c κs =
-    let pre = c .before .before .before .before .before .before .before .pre in
-    let l = c .before .before .before .before .loop in
+    let at-start : tie.Start Inv-loop μ-loop = search in let at-loop : tie.At-loop Inv-loop μ-loop = search in let pre = at-start .pre in
+    let l = at-loop .loop in
     (omega arith, pre .0, l .inv .2 .size ∙ pre .1, l .inv .1, pre .4)
 
 add-p : tie.Need-add-p Inv-loop μ-loop
@@ -36,13 +36,13 @@ loop-less c = omega arith
 
 loop-again : tie.Need-loop-again Inv-loop μ-loop
 loop-again c =
-    let at = c .before .before .before .before .before .loop in
+    let at-loop : tie.At-loop Inv-loop μ-loop = search in let at = at-loop .loop in
     let r = c .trim-first-row .ensures in
-    (search needs, r .1 .1, r .0 _ _ (c .before .before .before .before .before .before .befores .ensures) (at .inv .2))
+    (search needs, r .1 .1, r .0 _ _ (at-loop .before .befores .ensures) (at .inv .2))
 
 returns : tie.Need-returns Inv-loop μ-loop
 returns c =
-    let e : c .before .loop .p ≡ c .before .before .before .before .args .t = omega arith in
+    let at-start : tie.Start Inv-loop μ-loop = search in let e : c .before .loop .p ≡ at-start .args .t = omega arith in
     (rw e at (c .before .loop .inv .2), c .before .loop .inv .1)
 
 pub trim-first-spec : {M : Type 1} → statement M

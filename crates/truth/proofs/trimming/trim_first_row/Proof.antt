@@ -28,17 +28,17 @@ difference-requires c κs = omega arith
 
 take-out-requires : tie.Need-take-out-requires
 take-out-requires c κs =
-    let pre = c .before .before .before .before .before .before .before .pre in
+    let at-start : tie.Start = search in let pre = at-start .pre in
     (omega (arith, pre .0, pre .1), pre .2, pre .3)
 
 returns : tie.Need-returns
 returns c =
-    let start = c .before .before .before .before .before .before .before .before in
+    let after-load2 : tie.After-load2 = search in let after-load : tie.After-load = search in let start : tie.Start = search in
     let a = start .args in
     let pre = start .pre in
-    let on = c .before .before .before .before .before .before .goes-on in
-    let set = c .before .before .before .before .before .before .before .load .ensures in
-    let row = c .before .before .before .before .load2 .ensures in
+    let on = after-load2 .before .before .goes-on in
+    let set = after-load .load .ensures in
+    let row = after-load2 .load2 .ensures in
     let d = c .before .before .before .difference in
     let through = Through (a .allow .now) (a .table .now) (a .p) in
     let onward = rw (set .0, set .1) at (on .ensures) in

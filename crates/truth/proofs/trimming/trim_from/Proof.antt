@@ -16,7 +16,7 @@ use Rattle.truth.proofs.trimming.trim_from.Statement.{statement}
 use Rattle.truth.proofs.trimming.trim_from.Tie as tie
 
 abbrev start : tie.After-store → tie.Start
-start c = c .before .before .before .before .before .before .before
+start c = search
 
 cleared : (c : tie.After-store) → Cleared (start c .args .p2) (start c .args .gone .now) (c .store .last .0)
 cleared c =
@@ -31,7 +31,7 @@ is-empty-requires c κs = omega arith
 
 returns : tie.Need-returns
 returns c =
-    let a = c .before .before .before .before .args in
+    let at-start : tie.Start = search in let a = at-start .args in
     let from = c .before .before .load .ensures in
     let none : each membersMost (λ s. not (rowsHas (a .gone .now) (a .p2) s)) ≡ true = rw (from .0, from .1) at (sym (c .before .is-empty .ensures) ∙ c .if1 .taken) in
     (trimmed-idle, λ y. none-passes (rowsHas (a .gone .now) (a .p2)) (held-in _ _) none)
@@ -46,27 +46,27 @@ together-requires : tie.Need-together-requires
 together-requires c κs = λ u t. omega (arith, held-in _ _ u t .1)
 
 load-requires-2 : tie.Need-load-requires-2
-load-requires-2 c κs = omega (arith, c .before .before .before .before .before .before .before .before .before .pre .0, c .before .before .before .before .before .before .before .before .before .pre .1)
+load-requires-2 c κs = let at-start : tie.Start = search in omega (arith, at-start .pre .0, at-start .pre .1)
 
 trim-into-requires : tie.Need-trim-into-requires
 trim-into-requires c κs =
-    let pre = c .before .before .before .before .before .before .before .before .before .before .before .before .pre in
+    let at-start : tie.Start = search in let after-store : tie.After-store = search in let pre = at-start .pre in
     let on = c .before .before .load2 .ensures in
-    (pre .0, pre .1, pre .2, cleared (c .before .before .before .before .before) .size ∙ pre .3, λ u t. pre .4 .few _ u (rw (on .0, on .1) at t), pre .5)
+    (pre .0, pre .1, pre .2, cleared after-store .size ∙ pre .3, λ u t. pre .4 .few _ u (rw (on .0, on .1) at t), pre .5)
 
 returns-2 : tie.Need-returns-2
 returns-2 c =
-    let a = c .before .before .before .before .before .before .before .before .before .before .before .before .before .args in
-    let asked = c .before .before .before .before .before .before .before .before .before .before in
-    let from = c .before .before .before .before .before .before .before .before .before .before .before .load .ensures in
+    let at-start : tie.Start = search in let else1 : tie.Else1 = search in let after-together : tie.After-together = search in
+    let a = at-start .args in
+    let asked : tie.After-is-empty = search in let from = else1 .before .before .load .ensures in
     let on = c .before .before .before .load2 .ensures in
-    let pre = c .before .before .before .before .together in
+    let pre = after-together .together in
     let ahead : (s : ℕ) → T (rowHas (pre .result) s) ↔ Before (a .back .now) (rowsHas (a .gone .now) (a .p2)) s = rw (from .0, from .1) at (pre .ensures) in
     let some : each membersMost (λ s. not (rowsHas (a .gone .now) (a .p2) s)) ≡ false =
-    rw (from .0, from .1) at (sym (asked .is-empty .ensures) ∙ c .before .before .before .before .before .before .before .before .before .if1 .left) in
+    rw (from .0, from .1) at (sym (asked .is-empty .ensures) ∙ else1 .if1 .left) in
     let m = c .trim-into .ensures in
-    let known = c .before .before .before .before .before .before .before .before .before .before .before .before .before .pre in (
-      trimmed-row (a .back .now) (a .gone .now) (a .p2) (rowHas (pre .result)) (cleared (c .before .before .before .before .before .before)) ahead (m .0) (a .into .now) (known .4) (rw (on .0, on .1) at (m .1)) (known .0) some,
+    let known = at-start .pre in (
+      trimmed-row (a .back .now) (a .gone .now) (a .p2) (rowHas (pre .result)) (cleared (after-together .before .before)) ahead (m .0) (a .into .now) (known .4) (rw (on .0, on .1) at (m .1)) (known .0) some,
       λ y. absurd (true≢false y),
     )
 

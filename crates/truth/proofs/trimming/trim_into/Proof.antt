@@ -46,21 +46,21 @@ sub-trim-row c = omega (arith, few (c .before))
 
 trim-row-requires : tie.Need-trim-row-requires Inv-loop μ-loop
 trim-row-requires c κs =
-    let m = c .before .before .before .before .before .loop .inv .0 .shrunk in
-    let pre = c .before .before .before .before .before .before .pre in
+    let at-loop : tie.At-loop Inv-loop μ-loop = search in let m = at-loop .loop .inv .0 .shrunk in
+    let pre = at-loop .before .pre in
     (omega (arith, few (c .before .before .before)), pre .0, pre .1, omega (arith, m .size, pre .2), omega (arith, m .size-gone, pre .3), pre .5)
 
 loop-less : tie.Need-loop-less Inv-loop μ-loop
 loop-less c =
-    let n = c .before .before .before .before .if1 .left in
-    let f = c .before .before .before .before .before .first .ensures in
+    let else1 : tie.Else1 Inv-loop μ-loop = search in let n = else1 .if1 .left in
+    let f = else1 .before .first .ensures in
     let r = one-within _ _ _ f n in
     less-falls _ _ _ (c .before .before .before .without .ensures) (r .0) (r .1) (one-left _ _ f n)
 
 loop-again : tie.Need-loop-again Inv-loop μ-loop
 loop-again c =
-    let a = c .before .before .before .before .before .before .before .args in
-    let inv = c .before .before .before .before .before .before .loop .inv in
+    let at-loop : tie.At-loop Inv-loop μ-loop = search in let a = at-loop .before .args in
+    let inv = at-loop .loop .inv in
     let row = c .trim-row .ensures in (
       moved-more (inv .0) (row .0),
       visited-next _ _ _ (inv .1) _ _ _ (c .before .before .before .without .ensures) (λ v. owing-still (a .p2) (rowHas (a .pre)) (row .0) (v - 1)) (row .1),

@@ -20,8 +20,8 @@ add-k c = omega arith
 
 trim-from-requires : tie.Need-trim-from-requires Inv-loop μ-loop
 trim-from-requires c κs =
-    let g = c .before .before .before .loop .inv .1 .trimmed .shrunk in
-    let pre = c .before .before .before .before .pre in
+    let at-start : tie.Start Inv-loop μ-loop = search in let g = c .before .before .before .loop .inv .1 .trimmed .shrunk in
+    let pre = at-start .pre in
     (omega arith, pre .0, omega (arith, g .size, pre .1), omega (arith, g .size-gone, pre .2), pre .3, pre .4)
 
 loop-less : tie.Need-loop-less Inv-loop μ-loop
@@ -29,16 +29,16 @@ loop-less c = omega arith
 
 loop-again : tie.Need-loop-again Inv-loop μ-loop
 loop-again c =
-    let g = c .before .trim-from .ensures in
-    (search needs, round-yes (c .before .before .before .before .before .loop .inv .1) (g .0) (g .1) (c .if1 .taken))
+    let at-loop : tie.At-loop Inv-loop μ-loop = search in let g = c .before .trim-from .ensures in
+    (search needs, round-yes (at-loop .loop .inv .1) (g .0) (g .1) (c .if1 .taken))
 
 loop-less-2 : tie.Need-loop-less-2 Inv-loop μ-loop
 loop-less-2 c = omega arith
 
 loop-again-2 : tie.Need-loop-again-2 Inv-loop μ-loop
 loop-again-2 c =
-    let g = c .before .trim-from .ensures in
-    (search needs, round-no (c .before .before .before .before .before .loop .inv .1) (g .0) (g .1) (c .if1 .left))
+    let at-loop : tie.At-loop Inv-loop μ-loop = search in let g = c .before .trim-from .ensures in
+    (search needs, round-no (at-loop .loop .inv .1) (g .0) (g .1) (c .if1 .left))
 
 returns : tie.Need-returns Inv-loop μ-loop
 returns c = (c .before .loop .inv .1 .trimmed, λ y p l. c .before .loop .inv .1 .none y p (omega arith))

@@ -7,11 +7,11 @@ use Rattle.truth.proofs.trimming.trim_row.Statement.{statement}
 use Rattle.truth.proofs.trimming.trim_row.Tie as tie
 
 -- what the two intersections are
-looked : (c : tie.After-intersection2) → Looked (c .before .before .before .before .before .args .allow .now) (c .before .before .before .before .before .args .p)
-    (c .before .before .before .before .before .args .p2) (rowHas (c .before .before .before .before .before .args .pre)) (rowHas (c .intersection2 .result))
-    (c .before .before .before .before .before .args .xs .now)
+looked : (c : tie.After-intersection2) → let at-start : tie.Start = search in Looked (at-start .args .allow .now) (at-start .args .p)
+    (at-start .args .p2) (rowHas (at-start .args .pre)) (rowHas (c .intersection2 .result))
+    (at-start .args .xs .now)
 looked c =
-    let may = c .before .before .before .before .load .ensures in
+    let after-load : tie.After-load = search in let may = after-load .load .ensures in
     let row = c .before .before .load2 .ensures in
     record { is = λ s. rw (c .before .intersection .ensures s, row .0, row .1, may .0, may .1) at (c .intersection2 .ensures s) }
 
@@ -38,12 +38,12 @@ is-empty-requires c κs = omega arith
 
 returns : tie.Need-returns
 returns c =
-    let a = c .before .before .before .before .before .before .before .args in
+    let at-start : tie.Start = search in let a = at-start .args in
     (moved-none, none-looked (looked (c .before .before)) (a .next .now) (a .t) (a .gone .now) (sym (c .if1 .taken) ∙ c .before .is-empty .ensures))
 
 stuck-requires : tie.Need-stuck-requires
 stuck-requires c κs =
-    let pre = c .before .before .before .before .before .before .before .before .pre in
+    let at-start : tie.Start = search in let pre = at-start .pre in
     (pre .0, pre .1, pre .2, look-allowed (looked (c .before .before .before)), pre .5)
 
 take-out-requires : tie.Need-take-out-requires
@@ -51,7 +51,7 @@ take-out-requires c κs = omega arith
 
 returns-2 : tie.Need-returns-2
 returns-2 c =
-    let look = looked (c .before .before .before .before .before .before .before) in
+    let after-intersection2 : tie.After-intersection2 = search in let look = looked after-intersection2 in
     let lost = c .before .before .before .stuck .ensures in
     (row-moved look lost (c .take-out .ensures), row-owing look lost (c .take-out .ensures))
 
