@@ -6,6 +6,10 @@ mod exports;
 mod shared;
 
 use checker::compare::{self, Answer};
+use checker::format::{
+    rows_words, rule_header, rule_space, AUTOMATA, BOTH_NODES, LINES, NODES, PAIRS, ROW_BITS,
+    SIGNALS,
+};
 use checker::labelling::{self, Labelling};
 use checker::path::{self, Asked};
 use checker::rng::Rng;
@@ -20,14 +24,12 @@ use std::hint::black_box;
 use std::time::Duration;
 
 const SEED: u64 = 0x0063_6f73_7401;
-const LINES: usize = 1_024;
-const PAIRS: usize = 2_048;
 
-/// The words that comparison asks for with 16 signals and 128 nodes.
-const SPACE: usize = 33 + 6 * (16 + 7 * 128);
+/// The words that comparison asks for with all signals and nodes.
+const SPACE: usize = rule_space(SIGNALS, BOTH_NODES);
 
-/// The nodes of each machine where two are compared, 128 in all.
-const HALF: usize = 64;
+/// The nodes of each machine where two are compared that have the same number.
+const HALF: usize = BOTH_NODES / 2;
 
 fn main() {
     let mut table = Table::begin();
@@ -43,8 +45,8 @@ fn main() {
 
 /// The best times of labelling, ours and tuned, once the rows are the same as the tuned ones and the checker's.
 fn label_times(what: &str, machine: &[u16], rules: &[u16]) -> [Duration; 2] {
-    let lines = usize::from(rules[3]);
-    let mut rows = vec![!0u64; 2 * lines];
+    let lines = usize::from(rules[rule_header::LINES]);
+    let mut rows = vec![!0u64; rows_words(lines)];
     let mut own = rows.clone();
     let answer = exports::label(machine, rules, &mut rows);
     assert!(
@@ -60,7 +62,7 @@ fn label_times(what: &str, machine: &[u16], rules: &[u16]) -> [Duration; 2] {
     let tuned = tuned::label(&Structure::read(machine), rules);
     let halves = tuned
         .iter()
-        .flat_map(|row| [*row as u64, (row >> 64) as u64]);
+        .flat_map(|row| [*row as u64, (row >> ROW_BITS) as u64]);
     assert_eq!(rows, halves.collect::<Vec<u64>>(), "{what}");
     best([
         &mut || {
@@ -74,13 +76,13 @@ fn label_times(what: &str, machine: &[u16], rules: &[u16]) -> [Duration; 2] {
 
 fn label_lines(table: &mut Table) {
     let mut rng = Rng::for_case(SEED, 0);
-    let rules = many(&mut rng, 16, LINES);
+    let rules = many(&mut rng, AUTOMATA, LINES);
     for (nodes, aim) in [
         (8, Some(1.2)),
         (16, None),
         (32, None),
         (64, None),
-        (128, Some(0.8)),
+        (NODES, Some(0.8)),
     ] {
         let heads = random(&mut rng, nodes, 3);
         let machine = Plan::marked(heads, 0).with_signals(&mut rng, 4).sheet();
@@ -89,8 +91,8 @@ fn label_lines(table: &mut Table) {
         table.ratio(&what, ours, tuned, aim);
     }
     for (name, heads) in [
-        ("in a ring", ring(128)),
-        ("16 edges a node", random(&mut rng, 128, 16)),
+        ("in a ring", ring(NODES)),
+        ("16 edges a node", random(&mut rng, NODES, 16)),
     ] {
         let machine = Plan::marked(heads, 0).with_signals(&mut rng, 4).sheet();
         let what = format!("label 1,024 lines, 128 nodes, {name}");
@@ -103,10 +105,12 @@ fn wait_on_a_chain(table: &mut Table) {
     for (name, every) in [
         ("everywhere", 1),
         ("at every 8th node", 8),
-        ("at the last node", 128),
+        ("at the last node", NODES),
     ] {
-        let mut plan = Plan::marked(line(128), 0);
-        plan.words = (1..=128).map(|node| u16::from(node % every == 0)).collect();
+        let mut plan = Plan::marked(line(NODES), 0);
+        plan.words = (1..=NODES)
+            .map(|node| u16::from(node % every == 0))
+            .collect();
         let machine = plan.sheet();
         let mut before: Option<Duration> = None;
         for states in [4, 8, 16] {
@@ -130,7 +134,7 @@ fn times(one: Duration, other: Duration) -> f64 {
 /// sheets first; what is left is to be the cost of the two lines.
 fn show_a_path(table: &mut Table) {
     let mut rng = Rng::for_case(SEED, 1);
-    let plan = Plan::marked(random(&mut rng, 128, 3), 0);
+    let plan = Plan::marked(random(&mut rng, NODES, 3), 0);
     let machine = plan.with_signals(&mut rng, 4).sheet();
     let (rules, asked) = loop {
         let rules = many(&mut rng, 1, LINES);
@@ -270,14 +274,15 @@ fn compare_machines(table: &mut Table) {
             row(&what, &pairs, Answer::Unequal, 1.5);
         }
     }
-    let ends = [line_of(127), line_of(1)];
+    let most = BOTH_NODES - 1;
+    let ends = [line_of(most), line_of(1)];
     row(
         "127 + 1 nodes, a line and its end",
         &[ends],
         Answer::Unequal,
         1.5,
     );
-    let alike = [127, 1].map(|nodes| {
+    let alike = [most, 1].map(|nodes| {
         let mut plan = Plan::marked(random(&mut rng, nodes, nodes.min(2)), 0);
         plan.words.fill(1);
         plan.sheet()

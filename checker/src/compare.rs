@@ -6,6 +6,7 @@
 //! of either is bisimilar to a start of the other: a class of starts that only one has gives a
 //! rule, false on that class alone, that only the other keeps.
 
+use crate::format::{rule_space, written_lines, BOTH_NODES};
 use crate::machine::Machine;
 use crate::refusal::Refusal;
 use crate::written::judge_rule;
@@ -16,9 +17,6 @@ pub enum Answer {
     Equal,
     Unequal,
 }
-
-/// The limit of question 21 on the nodes of both machines.
-pub const NODES: usize = 128;
 
 /// Two machine sheets that the questions 1 to 6, 20 and 21 accept.
 #[derive(Clone, Debug)]
@@ -34,7 +32,7 @@ impl Both {
         if first.signals != second.signals {
             return Err(Refusal::of(20));
         }
-        if first.nodes() + second.nodes() > NODES {
+        if first.nodes() + second.nodes() > BOTH_NODES {
             return Err(Refusal::of(21));
         }
         Ok(Both { first, second })
@@ -46,12 +44,12 @@ impl Both {
 
     /// The words that question 22 asks for.
     pub fn room(&self) -> usize {
-        33 + 6 * self.most_lines()
+        rule_space(self.first.signals, self.nodes())
     }
 
     /// The most lines of a written rule.
     pub fn most_lines(&self) -> usize {
-        self.first.signals + 7 * self.nodes()
+        written_lines(self.first.signals, self.nodes())
     }
 
     /// The signals of all nodes, the second machine's after the first one's.
@@ -98,7 +96,7 @@ pub fn set(nodes: impl Iterator<Item = usize>) -> u128 {
 
 /// The nodes of a set, in ascending order.
 pub fn members(set: u128) -> impl Iterator<Item = usize> {
-    (0..128).filter(move |node| set >> node & 1 == 1)
+    (0..BOTH_NODES).filter(move |node| set >> node & 1 == 1)
 }
 
 /// For each node of both machines the set of nodes that are bisimilar to it: pairs with the same
@@ -171,6 +169,7 @@ pub fn judge(
 mod tests {
     use super::*;
     use crate::coverage::Coverage;
+    use crate::format::{node, NODES_FROM};
     use crate::generate::machine_pairs::{self, Kind};
     use crate::partition::Refinement;
     use crate::rng::Rng;
@@ -211,20 +210,22 @@ mod tests {
         assert_eq!(settled(&[], &[], 0), refused(1, 1));
         assert_eq!(settled(&m1, &[], 0), refused(1, 2));
         assert_eq!(settled(&m1, &worked::m5(), 0), refused(20, 0));
-        assert_eq!(settled(&m1, &worked::m2(), 33 + 6 * 22 - 1), refused(22, 0));
-        assert_eq!(settled(&m1, &worked::m2(), 33 + 6 * 22), Answer::Equal);
+        let asked = rule_space(1, 1 + 2);
+        assert_eq!(settled(&m1, &worked::m2(), asked - 1), refused(22, 0));
+        assert_eq!(settled(&m1, &worked::m2(), asked), Answer::Equal);
     }
 
     // Question 21 counts the nodes of a sheet that is compared with itself twice.
     #[test]
     fn sixty_four_nodes_twice_and_no_more() {
-        for nodes in [64, 65] {
+        let most = BOTH_NODES / 2;
+        for nodes in [most, most + 1] {
             let mut rng = Rng::new(nodes as u64);
             let graph = generate::machines::graph(&mut rng, nodes, 3);
             let words = generate::machines::lay_out(&mut rng, &graph).words();
-            let expected = match nodes {
-                64 => Answer::Equal,
-                _ => Answer::Refused(Refusal::of(21)),
+            let expected = match nodes == most {
+                true => Answer::Equal,
+                false => Answer::Refused(Refusal::of(21)),
             };
             assert_eq!(settled(&words, &words, ROOM), expected);
         }
@@ -234,7 +235,7 @@ mod tests {
     #[test]
     fn starts_are_looked_for_in_both_directions() {
         let mut two_starts = worked::m3();
-        two_starts[7] = 1;
+        two_starts[NODES_FROM + node::WORDS + node::START] = 1;
         assert_eq!(settled(&worked::m3(), &two_starts, ROOM), Answer::Unequal);
         assert_eq!(settled(&two_starts, &worked::m3(), ROOM), Answer::Unequal);
         assert_eq!(settled(&two_starts, &two_starts, ROOM), Answer::Equal);

@@ -3,8 +3,9 @@
 //! the sheet's last line, and the verdict has to be what the checker's own truth says of that sheet.
 
 use crate::compare::Both;
+use crate::format::{line, operation, COMPARED_BYTES};
 use crate::machine::Machine;
-use crate::program::{cut, expected_output, words, BYTES};
+use crate::program::{cut, expected_output, words};
 use crate::rules::Rules;
 use crate::sentence;
 use crate::truth::truth;
@@ -52,7 +53,7 @@ fn refusal_reason(question: &str, sheet: &str, printed: &str) -> Result<String, 
 }
 
 fn judge_unequal(input: &[u8], printed: &str) -> Result<String, String> {
-    let words = words(input, BYTES).ok_or("not an input of words")?;
+    let words = words(input, COMPARED_BYTES).ok_or("not an input of words")?;
     let (first, second) = cut(&words);
     let both = Both::read(first, second).map_err(|_| "not a pair to compare")?;
     let said = printed
@@ -112,14 +113,18 @@ fn sheet_of(lines: &[&str]) -> Result<Vec<u16>, String> {
 }
 
 /// The record of a line in words.
-fn record(meaning: &str) -> Option<[u16; 6]> {
+fn record(meaning: &str) -> Option<[u16; line::WORDS]> {
     let number = |word: &str| word.parse::<u16>().ok();
     let said: Vec<&str> = meaning.split(' ').collect();
     match said[..] {
-        ["signal", i, "is", "on"] => Some([0, number(i)?, 0, 0, 0, 0]),
-        ["line", k, "does", "not", "hold"] => Some([1, number(k)?, 0, 0, 0, 0]),
-        ["line", i, "or", "line", k, "holds"] => Some([2, number(i)?, number(k)?, 0, 0, 0]),
-        ["some", "next", "node", "has", "line", k] => Some([3, 1, number(k)?, 0, 0, 0]),
+        ["signal", i, "is", "on"] => Some([operation::SIGNAL, number(i)?, 0, 0, 0, 0]),
+        ["line", k, "does", "not", "hold"] => Some([operation::NOT, number(k)?, 0, 0, 0, 0]),
+        ["line", i, "or", "line", k, "holds"] => {
+            Some([operation::OR, number(i)?, number(k)?, 0, 0, 0])
+        }
+        ["some", "next", "node", "has", "line", k] => {
+            Some([operation::SOME_PATH, 1, number(k)?, 0, 0, 0])
+        }
         _ => None,
     }
 }

@@ -2,10 +2,11 @@
 //! text with a fault. Only where both are accepted are their words compared.
 
 use crate::compare::{settled, Answer};
+use crate::format::SHEETS_BYTES;
 use crate::machine;
 use crate::program::words;
 use crate::refusal::Refusal;
-use crate::text::{to_bytes, WORDS};
+use crate::text::to_bytes;
 
 /// A file under the name that the script is given. A name that ends in .txt makes it a text; any other file is 16-bit words.
 #[derive(Clone, Debug, PartialEq, Eq)]
@@ -35,13 +36,13 @@ pub struct Told {
 impl File {
     pub fn checked(&self) -> Checked {
         let words = match self.name.ends_with(".txt") {
-            false => words(&self.content, 2 * WORDS),
+            false => words(&self.content, SHEETS_BYTES),
             true => {
                 let printed = to_bytes(&self.content);
                 if !printed.error.is_empty() {
                     return Checked::Faulty(printed.error);
                 }
-                words(&printed.out, 2 * WORDS)
+                words(&printed.out, SHEETS_BYTES)
             }
         };
         let Some(words) = words else {
@@ -142,8 +143,8 @@ mod tests {
         assert_eq!(line_for(&m1, &[]), "B: refused 1 1");
         assert_eq!(line_for(&[], &[]), "A: refused 1 1");
         assert_eq!(line_for(&m1[..14], &m1), "A: refused 2 1");
-        assert_eq!(line_for(&m1, &vec![1; 2 * WORDS]), "B: refused 1 1");
-        assert_eq!(line_for(&m1, &vec![1; 2 * WORDS + 2]), "B: refused 0 0");
+        assert_eq!(line_for(&m1, &vec![1; SHEETS_BYTES]), "B: refused 1 1");
+        assert_eq!(line_for(&m1, &vec![1; SHEETS_BYTES + 2]), "B: refused 0 0");
     }
 
     #[test]

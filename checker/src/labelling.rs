@@ -1,6 +1,7 @@
 //! Labelling: the rows of all lines, whether the rule is kept, the number of nodes where its last
 //! line is true, and their whole percent, as the questions 1 to 17 allow it.
 
+use crate::format::{rows_words, ROW_BITS, ROW_WORDS};
 use crate::refusal::Refusal;
 use crate::truth::Model;
 
@@ -21,10 +22,10 @@ pub fn label(model: &Result<Model, Refusal>, space: &mut [u64]) -> Labelling {
         Ok(model) => model,
         Err(refusal) => return Labelling::Refused(*refusal),
     };
-    if space.len() < 2 * model.truth.len() {
+    if space.len() < rows_words(model.truth.len()) {
         return Labelling::Refused(Refusal::of(17));
     }
-    for (row, words) in model.truth.iter().zip(space.chunks_exact_mut(2)) {
+    for (row, words) in model.truth.iter().zip(space.chunks_exact_mut(ROW_WORDS)) {
         words.copy_from_slice(&row_words(row));
     }
     let rule = model.truth.last().map_or(&[][..], |row| row);
@@ -37,10 +38,10 @@ pub fn label(model: &Result<Model, Refusal>, space: &mut [u64]) -> Labelling {
 }
 
 /// Node s is bit (s - 1) mod 64 of word (s - 1) div 64.
-fn row_words(row: &[bool]) -> [u64; 2] {
-    let mut words = [0; 2];
+fn row_words(row: &[bool]) -> [u64; ROW_WORDS] {
+    let mut words = [0; ROW_WORDS];
     for (node, _) in row.iter().enumerate().filter(|(_, &holds)| holds) {
-        words[node / 64] |= 1 << (node % 64);
+        words[node / ROW_BITS] |= 1 << (node % ROW_BITS);
     }
     words
 }
@@ -55,6 +56,7 @@ fn percent(count: usize, nodes: usize) -> usize {
 #[cfg(test)]
 mod tests {
     use super::*;
+    use crate::format::NODES;
     use crate::worked;
 
     #[test]
@@ -81,9 +83,9 @@ mod tests {
             (2, 3, 67),
             (1, 8, 13),
             (3, 8, 38),
-            (1, 128, 1),
-            (127, 128, 99),
-            (128, 128, 100),
+            (1, NODES, 1),
+            (NODES - 1, NODES, 99),
+            (NODES, NODES, 100),
             (5, 40, 13),
             (49, 100, 49),
         ];
@@ -117,10 +119,11 @@ mod tests {
 
     #[test]
     fn high_nodes_stand_in_the_second_word() {
-        let mut row = vec![false; 128];
-        row[63] = true;
-        row[64] = true;
-        row[127] = true;
-        assert_eq!(row_words(&row), [1 << 63, 1 << 63 | 1]);
+        let mut row = vec![false; NODES];
+        row[ROW_BITS - 1] = true;
+        row[ROW_BITS] = true;
+        row[NODES - 1] = true;
+        let last = 1 << (ROW_BITS - 1);
+        assert_eq!(row_words(&row), [last, last | 1]);
     }
 }

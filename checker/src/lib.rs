@@ -5,6 +5,7 @@
 //! `cargo test --release` runs everything, once `rt staticlib exports` in the repository root has
 //! written the static library; `cargo test --release --lib` needs no library.
 //!
+//! - `format`: the numbers of the sheet format, which all the others cite.
 //! - `machine`, `rules`: the questions 1 to 15, and what an accepted sheet describes.
 //! - `truth`, `labelling`, `path`: truth of every line at every node, the questions 16 to 19, and
 //!   a judge of shown paths.
@@ -29,6 +30,7 @@ pub mod components;
 pub mod coverage;
 pub mod explanation;
 pub mod files;
+pub mod format;
 pub mod generate;
 pub mod labelling;
 pub mod machine;

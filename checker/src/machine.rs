@@ -4,10 +4,9 @@
 //! Records are numbered from 1 on the sheet. The structure's nodes count from 0, so that they
 //! index its tables.
 
-/// The limits of question 1: nodes, signals and edge records.
-pub const NODES: usize = 128;
-pub const SIGNALS: usize = 16;
-pub const EDGES: usize = 2048;
+use crate::format::{
+    edge, edges_from, machine_header, machine_words, node, EDGES, NODES, NODES_FROM, SIGNALS,
+};
 
 /// The number of the first question that says "no" to a machine sheet, if one does.
 pub fn refusal(words: &[u16]) -> Option<u16> {
@@ -44,10 +43,8 @@ type Question<'a> = (u16, fn(&Sheet<'a>) -> bool);
 
 impl<'a> Sheet<'a> {
     fn with_header(words: &'a [u16]) -> Option<Sheet<'a>> {
-        if words.len() < 3 {
-            return None;
-        }
-        let [nodes, signals, edges] = [words[0], words[1], words[2]].map(usize::from);
+        let header = words.first_chunk::<{ machine_header::WORDS }>()?;
+        let [nodes, signals, edges] = header.map(usize::from);
         let in_range = (1..=NODES).contains(&nodes)
             && (1..=SIGNALS).contains(&signals)
             && (1..=EDGES).contains(&edges);
@@ -60,19 +57,19 @@ impl<'a> Sheet<'a> {
     }
 
     fn length(&self) -> usize {
-        3 + 3 * self.nodes + 2 * self.edges
+        machine_words(self.nodes, self.edges)
     }
 
     /// Signals, start flag and first edge of each node, in the order of the records.
-    fn node_records(&self) -> impl Iterator<Item = [u16; 3]> + '_ {
-        let records = self.words[3..3 + 3 * self.nodes].chunks_exact(3);
-        records.map(|record| [record[0], record[1], record[2]])
+    fn node_records(&self) -> impl Iterator<Item = [u16; node::WORDS]> + '_ {
+        let records = self.words[NODES_FROM..edges_from(self.nodes)].chunks_exact(node::WORDS);
+        records.map(|record| std::array::from_fn(|word| record[word]))
     }
 
     /// Target and next edge of each edge, in the order of the records.
-    fn edge_records(&self) -> impl Iterator<Item = [u16; 2]> + '_ {
-        let records = self.words[3 + 3 * self.nodes..self.length()].chunks_exact(2);
-        records.map(|record| [record[0], record[1]])
+    fn edge_records(&self) -> impl Iterator<Item = [u16; edge::WORDS]> + '_ {
+        let records = self.words[edges_from(self.nodes)..self.length()].chunks_exact(edge::WORDS);
+        records.map(|record| std::array::from_fn(|word| record[word]))
     }
 
     fn has_exact_length(&self) -> bool {
@@ -81,7 +78,7 @@ impl<'a> Sheet<'a> {
 
     fn has_node_words_in_range(&self) -> bool {
         self.node_records().all(|[signals, start, _]| {
-            (self.signals..16).all(|bit| signals >> bit & 1 == 0) && start <= 1
+            (self.signals..SIGNALS).all(|bit| signals >> bit & 1 == 0) && start <= 1
         })
     }
 
@@ -142,15 +139,16 @@ impl Machine {
     }
 
     fn of(sheet: &Sheet) -> Machine {
-        let nodes: Vec<[u16; 3]> = sheet.node_records().collect();
-        let edges: Vec<[usize; 2]> = sheet.edge_records().map(|r| r.map(usize::from)).collect();
+        let nodes: Vec<[u16; node::WORDS]> = sheet.node_records().collect();
+        let edges: Vec<[usize; edge::WORDS]> =
+            sheet.edge_records().map(|r| r.map(usize::from)).collect();
         Machine {
             signals: sheet.signals,
-            labels: nodes.iter().map(|node| node[0]).collect(),
-            starts: nodes.iter().map(|node| node[1] == 1).collect(),
+            labels: nodes.iter().map(|node| node[node::SIGNALS]).collect(),
+            starts: nodes.iter().map(|node| node[node::START] == 1).collect(),
             successors: nodes
                 .iter()
-                .map(|node| targets(&edges, usize::from(node[2])))
+                .map(|node| targets(&edges, usize::from(node[node::FIRST_EDGE])))
                 .collect(),
         }
     }
@@ -160,11 +158,11 @@ impl Machine {
     }
 }
 
-fn targets(edges: &[[usize; 2]], first: usize) -> Vec<usize> {
-    let numbers = chain(first, |number| edges[number - 1][1]);
+fn targets(edges: &[[usize; edge::WORDS]], first: usize) -> Vec<usize> {
+    let numbers = chain(first, |number| edges[number - 1][edge::NEXT]);
     let mut targets: Vec<usize> = numbers
         .iter()
-        .map(|&number| edges[number - 1][0] - 1)
+        .map(|&number| edges[number - 1][edge::TARGET] - 1)
         .collect();
     targets.sort_unstable();
     targets.dedup();
@@ -192,14 +190,14 @@ mod tests {
     #[test]
     fn marked_case_i_an_edge_linked_to_itself() {
         let mut words = worked::m1();
-        words[7] = 1;
+        words[edges_from(1) + edge::NEXT] = 1;
         assert_eq!(refusal(&words), Some(5));
     }
 
     #[test]
     fn marked_case_j_a_bit_of_a_signal_that_is_not_there() {
         let mut words = worked::m1();
-        words[3] = 2;
+        words[NODES_FROM + node::SIGNALS] = 2;
         assert_eq!(refusal(&words), Some(3));
     }
 
@@ -207,7 +205,7 @@ mod tests {
     fn short_sheets_and_wrong_lengths() {
         let words = worked::m2();
         for length in 0..words.len() {
-            let expected = if length < 3 { 1 } else { 2 };
+            let expected = if length < machine_header::WORDS { 1 } else { 2 };
             assert_eq!(refusal(&words[..length]), Some(expected), "{length} words");
         }
         let mut longer = words.clone();
@@ -218,7 +216,7 @@ mod tests {
     #[test]
     fn a_machine_without_a_start() {
         let mut words = worked::m2();
-        words[4] = 0;
+        words[NODES_FROM + node::START] = 0;
         assert_eq!(refusal(&words), Some(6));
     }
 
@@ -226,9 +224,9 @@ mod tests {
     #[test]
     fn all_records_are_tried_before_the_next_question() {
         let mut words = worked::m2();
-        words[5] = 0;
+        words[NODES_FROM + node::FIRST_EDGE] = 0;
         assert_eq!(refusal(&words), Some(4));
-        words[7] = 2;
+        words[NODES_FROM + node::WORDS + node::START] = 2;
         assert_eq!(refusal(&words), Some(3));
     }
 

@@ -6,12 +6,9 @@
 //! block splits another. A block that was split is owed as a splitter again, in both halves.
 
 use crate::compare::{members, set, Both};
+use crate::format::line;
+use crate::format::operation::{NOT, OR, SIGNAL, SOME_PATH};
 use crate::worked::written_head;
-
-const SIGNAL: u16 = 0;
-const NOT: u16 = 1;
-const OR: u16 = 2;
-const SOME_PATH: u16 = 3;
 
 #[derive(Clone, Copy, Debug)]
 struct Block {
@@ -25,7 +22,7 @@ struct Block {
 /// blocks, with the lines that describe it.
 pub struct Refinement {
     blocks: Vec<Block>,
-    lines: Vec<[u16; 6]>,
+    lines: Vec<[u16; line::WORDS]>,
 }
 
 impl Refinement {
@@ -46,7 +43,8 @@ impl Refinement {
     /// One block, split by the signals.
     fn start(both: &Both) -> Refinement {
         let signals = both.first.signals as u16;
-        let mut lines: Vec<[u16; 6]> = (1..=signals).map(|p| [SIGNAL, p, 0, 0, 0, 0]).collect();
+        let mut lines: Vec<[u16; line::WORDS]> =
+            (1..=signals).map(|p| [SIGNAL, p, 0, 0, 0, 0]).collect();
         let not_first = push(&mut lines, [NOT, 1, 0, 0, 0, 0]);
         let always = push(&mut lines, [OR, 1, not_first, 0, 0, 0]);
         let all = Block {
@@ -68,7 +66,7 @@ impl Refinement {
     }
 
     /// Splits each block by a row. Its line is only written once a block is split by it.
-    fn split_all(&mut self, row: u128, write: impl Fn(&mut Vec<[u16; 6]>) -> u16) {
+    fn split_all(&mut self, row: u128, write: impl Fn(&mut Vec<[u16; line::WORDS]>) -> u16) {
         let mut line = None;
         for index in 0..self.blocks.len() {
             let nodes = self.blocks[index].nodes;
@@ -120,12 +118,12 @@ impl Refinement {
 }
 
 /// Adds a line and gives its number.
-fn push(lines: &mut Vec<[u16; 6]>, line: [u16; 6]) -> u16 {
+fn push(lines: &mut Vec<[u16; line::WORDS]>, line: [u16; line::WORDS]) -> u16 {
     lines.push(line);
     lines.len() as u16
 }
 
-fn nor(lines: &mut Vec<[u16; 6]>, one: u16, other: u16) -> u16 {
+fn nor(lines: &mut Vec<[u16; line::WORDS]>, one: u16, other: u16) -> u16 {
     let either = push(lines, [OR, one, other, 0, 0, 0]);
     push(lines, [NOT, either, 0, 0, 0, 0])
 }

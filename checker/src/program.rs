@@ -1,15 +1,13 @@
 //! The comparing program: how its input is cut into two sheets, and the line that it prints.
 
 use crate::compare::{settled, Answer};
+use crate::format::{COMPARED_BYTES, WORD_BYTES};
 use crate::machine::end_by_header;
 use crate::refusal::Refusal;
 
-/// The most bytes that the program reads.
-pub const BYTES: usize = 20_000;
-
 /// The line that the program prints for its input, with its newline.
 pub fn expected_output(input: &[u8]) -> String {
-    let Some(words) = words(input, BYTES) else {
+    let Some(words) = words(input, COMPARED_BYTES) else {
         return "refused 0 0\n".to_string();
     };
     let (first, second) = cut(&words);
@@ -22,8 +20,8 @@ pub fn expected_output(input: &[u8]) -> String {
 
 /// The words of an input, low byte first, unless it is odd or has more bytes than `most`.
 pub fn words(input: &[u8], most: usize) -> Option<Vec<u16>> {
-    let whole = input.len().is_multiple_of(2) && input.len() <= most;
-    let pairs = input.chunks_exact(2);
+    let whole = input.len().is_multiple_of(WORD_BYTES) && input.len() <= most;
+    let pairs = input.chunks_exact(WORD_BYTES);
     whole.then(|| {
         pairs
             .map(|two| u16::from_le_bytes([two[0], two[1]]))
@@ -81,8 +79,8 @@ mod tests {
     #[test]
     fn odd_and_long_inputs() {
         assert_eq!(expected_output(&[1]), "refused 0 0\n");
-        assert_eq!(expected_output(&[0; 20_000]), "refused 1 1\n");
-        assert_eq!(expected_output(&[0; 20_001]), "refused 0 0\n");
-        assert_eq!(expected_output(&[0; 20_002]), "refused 0 0\n");
+        assert_eq!(expected_output(&[0; COMPARED_BYTES]), "refused 1 1\n");
+        assert_eq!(expected_output(&[0; COMPARED_BYTES + 1]), "refused 0 0\n");
+        assert_eq!(expected_output(&[0; COMPARED_BYTES + 2]), "refused 0 0\n");
     }
 }

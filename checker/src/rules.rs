@@ -5,22 +5,12 @@
 //! a non-accepting state exists exactly when one component holds both kinds.
 
 use crate::components::strong_components;
+use crate::format::{
+    automaton, line, lines_from, operation, rule_header, rule_words, state, states_from,
+    transition, transitions_from, AUTOMATA, AUTOMATA_FROM, AUTOMATON_STATES, LINES, SIGNALS,
+    STATES, TRANSITIONS, VARIABLES,
+};
 use crate::machine::{chain, link_in_range};
-
-/// The limits of question 7: automata, states, edge records and lines.
-pub const AUTOMATA: usize = 16;
-pub const STATES: usize = 256;
-pub const EDGES: usize = 1024;
-pub const LINES: usize = 1024;
-
-/// The limit of question 9.
-pub const VARIABLES: usize = 4;
-
-/// The limit of question 12 on the states of one automaton.
-pub const CHAIN: usize = 16;
-
-/// The limit of question 15 on signal numbers.
-const SIGNALS: usize = 16;
 
 /// The number of the first question that says "no" to a rule sheet, if one does.
 pub fn refusal(words: &[u16]) -> Option<u16> {
@@ -109,14 +99,11 @@ type Question<'a> = (u16, fn(&Sheet<'a>) -> bool);
 
 impl<'a> Sheet<'a> {
     fn with_header(words: &'a [u16]) -> Option<Sheet<'a>> {
-        if words.len() < 4 {
-            return None;
-        }
-        let [automata, states, edges, lines] =
-            [words[0], words[1], words[2], words[3]].map(usize::from);
+        let header = words.first_chunk::<{ rule_header::WORDS }>()?;
+        let [automata, states, edges, lines] = header.map(usize::from);
         let in_range = automata <= AUTOMATA
             && states <= STATES
-            && edges <= EDGES
+            && edges <= TRANSITIONS
             && (1..=LINES).contains(&lines);
         in_range.then_some(Sheet {
             words,
@@ -128,19 +115,7 @@ impl<'a> Sheet<'a> {
     }
 
     fn length(&self) -> usize {
-        self.lines_from() + 6 * self.lines
-    }
-
-    fn states_from(&self) -> usize {
-        4 + 2 * self.automata
-    }
-
-    fn edges_from(&self) -> usize {
-        self.states_from() + 3 * self.states
-    }
-
-    fn lines_from(&self) -> usize {
-        self.edges_from() + 3 * self.edges
+        rule_words(self.automata, self.states, self.edges, self.lines)
     }
 
     fn record<const WORDS: usize>(&self, from: usize, number: usize) -> [usize; WORDS] {
@@ -149,23 +124,23 @@ impl<'a> Sheet<'a> {
     }
 
     /// Variables and first state.
-    fn automaton_record(&self, number: usize) -> [usize; 2] {
-        self.record(4, number)
+    fn automaton_record(&self, number: usize) -> [usize; automaton::WORDS] {
+        self.record(AUTOMATA_FROM, number)
     }
 
     /// Accepting, first edge and next state.
-    fn state_record(&self, number: usize) -> [usize; 3] {
-        self.record(self.states_from(), number)
+    fn state_record(&self, number: usize) -> [usize; state::WORDS] {
+        self.record(states_from(self.automata), number)
     }
 
     /// Target state, mask and next edge.
-    fn edge_record(&self, number: usize) -> [usize; 3] {
-        self.record(self.edges_from(), number)
+    fn edge_record(&self, number: usize) -> [usize; transition::WORDS] {
+        self.record(transitions_from(self.automata, self.states), number)
     }
 
     /// Operation, then five words.
-    fn line_record(&self, number: usize) -> [usize; 6] {
-        self.record(self.lines_from(), number)
+    fn line_record(&self, number: usize) -> [usize; line::WORDS] {
+        self.record(lines_from(self.automata, self.states, self.edges), number)
     }
 }
 
@@ -204,18 +179,23 @@ impl Sheet<'_> {
 
     /// The line of a record, or `None` if question 15 says no to it.
     fn line(&self, number: usize) -> Option<Line> {
-        let [operation, words @ ..] = self.line_record(number);
-        let (line, used) = match operation {
-            0 => (self.signal(words[0])?, 1),
-            1 => (Line::Not(above(words[0], number)?), 1),
-            2 => {
-                let line = Line::Or(above(words[0], number)?, above(words[1], number)?);
-                (line, 2)
+        let record = self.line_record(number);
+        // A record's words are read as numbers of any size; the operations are words.
+        let operation = record[line::OPERATION] as u16;
+        let (line, end) = match operation {
+            operation::SIGNAL => (self.signal(record[line::SIGNAL])?, line::SIGNAL + 1),
+            operation::NOT => (Line::Not(above(record[line::ONE], number)?), line::ONE + 1),
+            operation::OR => {
+                let [one, other] = [record[line::ONE], record[line::OTHER]];
+                let line = Line::Or(above(one, number)?, above(other, number)?);
+                (line, line::OTHER + 1)
             }
-            3 | 4 => self.some_path(operation == 3, words, number)?,
+            operation::SOME_PATH | operation::SOME_PATH_NOT => {
+                self.some_path(operation == operation::SOME_PATH, record, number)?
+            }
             _ => return None,
         };
-        let unused_are_zero = words[used..].iter().all(|&word| word == 0);
+        let unused_are_zero = record[end..].iter().all(|&word| word == 0);
         unused_are_zero.then_some(line)
     }
 
@@ -225,19 +205,19 @@ impl Sheet<'_> {
             .then(|| Line::Signal(signal - 1))
     }
 
-    /// A path line, and how many of its words are used.
+    /// A path line, and where its unused words begin.
     fn some_path(
         &self,
         accepting: bool,
-        words: [usize; 5],
+        record: [usize; line::WORDS],
         number: usize,
     ) -> Option<(Line, usize)> {
-        let automaton = words[0];
+        let automaton = record[line::AUTOMATON];
         if !(1..=self.automata).contains(&automaton) {
             return None;
         }
-        let used = 1 + self.automaton_record(automaton)[0];
-        let arguments: Option<Vec<usize>> = words[1..used]
+        let end = line::ARGUMENTS + self.automaton_record(automaton)[automaton::VARIABLES];
+        let arguments: Option<Vec<usize>> = record[line::ARGUMENTS..end]
             .iter()
             .map(|&line| above(line, number))
             .collect();
@@ -246,7 +226,7 @@ impl Sheet<'_> {
             automaton: automaton - 1,
             arguments: arguments?,
         };
-        Some((line, used))
+        Some((line, end))
     }
 }
 
@@ -259,18 +239,18 @@ fn above(line: usize, number: usize) -> Option<usize> {
 impl Sheet<'_> {
     fn chain_of(&self, automaton: usize) -> Vec<usize> {
         let [_, first] = self.automaton_record(automaton);
-        chain(first, |state| self.state_record(state)[2])
+        chain(first, |state| self.state_record(state)[state::NEXT])
     }
 
     fn edges_out_of(&self, state: usize) -> Vec<usize> {
         let [_, first, _] = self.state_record(state);
-        chain(first, |edge| self.edge_record(edge)[2])
+        chain(first, |edge| self.edge_record(edge)[transition::NEXT])
     }
 
     fn has_closed_automata(&self) -> bool {
         (1..=self.automata).all(|automaton| {
             let states = self.chain_of(automaton);
-            states.len() <= CHAIN
+            states.len() <= AUTOMATON_STATES
                 && states
                     .iter()
                     .all(|&q| self.is_closed(automaton, &states, q))
@@ -305,7 +285,7 @@ impl Sheet<'_> {
     /// Those of the edges that are taken under a valuation.
     fn taken(&self, edges: &[usize], valuation: usize) -> Vec<usize> {
         let mut taken = edges.to_vec();
-        taken.retain(|&edge| self.edge_record(edge)[1] >> valuation & 1 == 1);
+        taken.retain(|&edge| self.edge_record(edge)[transition::MASK] >> valuation & 1 == 1);
         taken
     }
 
@@ -317,7 +297,10 @@ impl Sheet<'_> {
                 .map(|&q| self.next_places(&states, q))
                 .collect();
             let component = strong_components(graph.len(), |q, i| graph[q].get(i).copied());
-            let accepting: Vec<usize> = states.iter().map(|&q| self.state_record(q)[0]).collect();
+            let accepting: Vec<usize> = states
+                .iter()
+                .map(|&q| self.state_record(q)[state::ACCEPTING])
+                .collect();
             same_in_each(&component, &accepting)
         })
     }
@@ -344,7 +327,7 @@ impl Sheet<'_> {
             variables,
             accepting: numbers
                 .iter()
-                .map(|&q| self.state_record(q)[0] == 1)
+                .map(|&q| self.state_record(q)[state::ACCEPTING] == 1)
                 .collect(),
             step,
             numbers,
@@ -356,7 +339,7 @@ impl Sheet<'_> {
         let edges = self.edges_out_of(state);
         let follow = |valuation| {
             let edge = *self.taken(&edges, valuation).first()?;
-            place(states, self.edge_record(edge)[0])
+            place(states, self.edge_record(edge)[transition::TARGET])
         };
         (0..1 << variables).filter_map(follow).collect()
     }
@@ -405,7 +388,7 @@ mod tests {
     fn short_sheets_and_wrong_lengths() {
         let words = worked::even();
         for length in 0..words.len() {
-            let expected = if length < 4 { 7 } else { 8 };
+            let expected = if length < rule_header::WORDS { 7 } else { 8 };
             assert_eq!(refusal(&words[..length]), Some(expected), "{length} words");
         }
         let mut longer = words.clone();
@@ -415,8 +398,9 @@ mod tests {
 
     #[test]
     fn a_rule_without_automata() {
-        assert_eq!(refusal(&[0, 0, 0, 1, 0, 16, 0, 0, 0, 0]), None);
-        assert_eq!(refusal(&[0, 0, 0, 1, 0, 17, 0, 0, 0, 0]), Some(15));
+        let last = SIGNALS as u16;
+        assert_eq!(refusal(&[0, 0, 0, 1, 0, last, 0, 0, 0, 0]), None);
+        assert_eq!(refusal(&[0, 0, 0, 1, 0, last + 1, 0, 0, 0, 0]), Some(15));
         assert_eq!(refusal(&[0, 0, 0, 1, 3, 1, 0, 0, 0, 0]), Some(15));
         assert_eq!(refusal(&[0, 0, 0, 0]), Some(7));
     }
@@ -431,19 +415,20 @@ mod tests {
             0, 1, 0, 0, 0, 0,
         ];
         assert_eq!(refusal(&closing), None);
+        let [third, fourth] = [2, 3].map(|n| transitions_from(1, 2) + n * transition::WORDS);
         let mut twice = closing;
-        twice[21] = 2;
+        twice[fourth + transition::TARGET] = 2;
         assert_eq!(refusal(&twice), Some(12));
         let mut taken = closing;
-        taken[19] = 2;
-        taken[22] = 1;
+        taken[third + transition::MASK] = 2;
+        taken[fourth + transition::MASK] = 1;
         assert_eq!(refusal(&taken), Some(14));
     }
 
     #[test]
     fn overlapping_masks() {
         let mut words = worked::even();
-        words[4 + 2 + 9 + 4] = 3;
+        words[transitions_from(1, 3) + transition::WORDS + transition::MASK] = 3;
         assert_eq!(refusal(&words), Some(13));
     }
 
@@ -451,12 +436,13 @@ mod tests {
     fn the_mask_bound() {
         for (variables, bound) in [(0, 2), (1, 4), (2, 16), (3, 256)] {
             let mut words = worked::constant(1);
-            words[4] = variables;
-            words[10] = bound - 1;
-            let line = words.len() - 6;
+            let mask = transitions_from(1, 1) + transition::MASK;
+            words[AUTOMATA_FROM + automaton::VARIABLES] = variables;
+            words[mask] = bound - 1;
+            let line = words.len() - line::WORDS;
             words[line..].copy_from_slice(&[0, 1, 0, 0, 0, 0]);
             assert_eq!(refusal(&words), None, "v = {variables}");
-            words[10] = bound;
+            words[mask] = bound;
             assert_eq!(refusal(&words), Some(12), "v = {variables}");
         }
     }

@@ -2,21 +2,16 @@
 //! here and compared whole. Which path is shown is free, and so are the words of a refusal: these
 //! texts are read back, and what they say is judged.
 
+use crate::format::{rows_words, PAIRS, SHEETS_BYTES};
 use crate::labelling::{self, Labelling};
 use crate::path::{self, Answer, Asked, Pair};
 use crate::program::{cut, words};
 use crate::refusal::Refusal;
 use crate::truth::Model;
 
-/// The most bytes that the two programs read: the longest machine sheet and the longest rule sheet.
-pub const BYTES: usize = 2 * (4_483 + 10_020);
-
-/// The most pairs of a path: 128 nodes with 16 states each.
-pub const PAIRS: usize = 2_048;
-
 /// The sheets of an input, one after the other; an odd or too long one is refused by 0.
 pub fn model(input: &[u8]) -> Result<Model, Refusal> {
-    let words = words(input, BYTES).ok_or(Refusal::of(0))?;
+    let words = words(input, SHEETS_BYTES).ok_or(Refusal::of(0))?;
     let (machine, rules) = cut(&words);
     Model::read(machine, rules)
 }
@@ -46,7 +41,7 @@ pub fn labels(model: &Model) -> String {
         let (line, count, names) = (index + 1, names.len(), names.concat());
         text += &format!("line {line}: true at {count} of {nodes} nodes{colon}{names}\n");
     }
-    let mut space = vec![0; 2 * model.truth.len()];
+    let mut space = vec![0; rows_words(model.truth.len())];
     match labelling::label(&Ok(model.clone()), &mut space) {
         Labelling::Refused(refusal) => unreachable!("{refusal:?}, with space for every line"),
         Labelling::Done {
@@ -211,10 +206,10 @@ mod tests {
 
     #[test]
     fn odd_and_long_inputs_are_refused_by_0() {
-        for length in [1, BYTES + 1, BYTES + 2] {
+        for length in [1, SHEETS_BYTES + 1, SHEETS_BYTES + 2] {
             assert_eq!(model(&vec![0; length]).err(), Some(Refusal::of(0)));
         }
         let first = Some(Refusal::of_machine(1, 1));
-        assert_eq!(model(&vec![0; BYTES]).err(), first);
+        assert_eq!(model(&vec![0; SHEETS_BYTES]).err(), first);
     }
 }

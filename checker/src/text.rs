@@ -1,13 +1,8 @@
 //! Sheets as text: decimal words with blanks and comments. What the program `sheet` prints for its
 //! input, decided line by line and piece by piece.
 
+use crate::format::{SHEETS_BYTES, SHEETS_WORDS, TEXT_BYTES, WORD_BYTES};
 use crate::program::bytes;
-
-/// The most words of a text: the largest machine sheet with the largest rule sheet.
-pub const WORDS: usize = 14_503;
-
-/// The most bytes of a text.
-pub const TEXT: usize = 200_000;
 
 /// What is wrong with a text.
 #[derive(Clone, Copy, Debug, PartialEq, Eq)]
@@ -94,16 +89,16 @@ pub fn text(words: &[u16]) -> String {
 
 /// What `sheet bytes` prints for a text.
 pub fn to_bytes(text: &[u8]) -> Printed {
-    if text.len() > TEXT {
-        return wrong(format!("more than {TEXT} bytes\n"));
+    if text.len() > TEXT_BYTES {
+        return wrong(format!("more than {TEXT_BYTES} bytes\n"));
     }
-    match reading(text, WORDS) {
+    match reading(text, SHEETS_WORDS) {
         Ok(words) => right(bytes(&words)),
         Err(Fault { kind, line, column }) => {
             let said = match kind {
                 Kind::NotDecimal => "this is not a decimal number".to_string(),
                 Kind::Above => "the number is above 65535".to_string(),
-                Kind::NoRoom => format!("more than {WORDS} words"),
+                Kind::NoRoom => format!("more than {SHEETS_WORDS} words"),
             };
             wrong(format!("line {line}, column {column}: {said}\n"))
         }
@@ -112,14 +107,16 @@ pub fn to_bytes(text: &[u8]) -> Printed {
 
 /// What `sheet text` prints for a sheet's bytes.
 pub fn to_text(sheet: &[u8]) -> Printed {
-    if sheet.len() > 2 * WORDS {
-        return wrong(format!("more than {} bytes, {WORDS} words\n", 2 * WORDS));
+    if sheet.len() > SHEETS_BYTES {
+        return wrong(format!(
+            "more than {SHEETS_BYTES} bytes, {SHEETS_WORDS} words\n"
+        ));
     }
-    if sheet.len() % 2 == 1 {
+    if !sheet.len().is_multiple_of(WORD_BYTES) {
         return wrong("an odd number of bytes\n".to_string());
     }
     let words: Vec<u16> = sheet
-        .chunks_exact(2)
+        .chunks_exact(WORD_BYTES)
         .map(|two| u16::from_le_bytes([two[0], two[1]]))
         .collect();
     right(text(&words).into_bytes())

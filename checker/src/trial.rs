@@ -208,6 +208,7 @@ pub fn paths(seed: u64, cases: u64, mut run: impl FnMut(&[u8], Asked) -> String)
 mod tests {
     use super::*;
     use crate::compare::Both;
+    use crate::format::PAIRS;
     use crate::partition::Refinement;
     use crate::path::Settled;
 
@@ -380,7 +381,7 @@ mod tests {
     #[should_panic(expected = "paths, seed")]
     fn a_text_without_a_path_always_is_found() {
         paths(SEED, 100, |input, asked| {
-            match path::settled(&shown::model(input), asked, shown::PAIRS) {
+            match path::settled(&shown::model(input), asked, PAIRS) {
                 Settled::Refused(refusal) => refusal_text(refusal),
                 _ => format!("no path: the line is false at node {}\n", asked.node),
             }

@@ -189,6 +189,7 @@ impl<'a> Product<'a> {
 mod tests {
     use super::*;
     use crate::coverage::Coverage;
+    use crate::format::{line, lines_from, operation};
     use crate::generate::pairs;
     use crate::rng::Rng;
     use crate::worked;
@@ -225,15 +226,15 @@ mod tests {
     #[test]
     fn operation_four_asks_for_a_path_of_its_own() {
         let mut words = worked::next_of_signal();
-        let operation = words.len() - 6;
-        words[operation] = 4;
+        let operation = words.len() - line::WORDS;
+        words[operation] = operation::SOME_PATH_NOT;
         assert_eq!(rule_truth(&worked::m5(), &words), [true, true, false, true]);
     }
 
     #[test]
     fn a_signal_past_the_machine_is_refused_by_question_16() {
         let mut words = worked::signal_alone();
-        words[5] = 2;
+        words[lines_from(0, 0, 0) + line::SIGNAL] = 2;
         let refused = Model::read(&worked::m1(), &words).err();
         assert_eq!(refused, Some(Refusal::of(16)));
         assert!(Model::read(&worked::m5(), &words).is_ok());

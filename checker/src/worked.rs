@@ -2,6 +2,8 @@
 //! where it gives the words. M5 and M6 are given there as graphs; their records stand here in
 //! the order of the nodes.
 
+use crate::format::{node, NEXT_WORDS, NODES_FROM};
+
 /// One node with signal 1 and an edge to itself.
 pub fn m1() -> Vec<u16> {
     vec![1, 1, 1, 1, 1, 1, 1, 0]
@@ -15,7 +17,7 @@ pub fn m2() -> Vec<u16> {
 /// M2 with the second node's signals 0.
 pub fn m3() -> Vec<u16> {
     let mut words = m2();
-    words[6] = 0;
+    words[NODES_FROM + node::WORDS + node::SIGNALS] = 0;
     words
 }
 
@@ -94,7 +96,7 @@ pub fn incomplete() -> Vec<u16> {
 }
 
 /// The words of Next after the automaton record: four states, then five edges.
-pub const NEXT: [u16; 27] = [
+pub const NEXT: [u16; NEXT_WORDS] = [
     0, 1, 2, 0, 2, 3, 1, 4, 4, 0, 5, 0, //
     2, 3, 0, 3, 2, 3, 4, 1, 0, 3, 3, 0, 4, 3, 0,
 ];

@@ -3,12 +3,10 @@
 //! own truth.
 
 use crate::compare::Both;
+use crate::format::{line, operation, rule_header, written_words, WRITTEN_HEAD};
 use crate::rules::Rules;
 use crate::truth::{keeps, truth};
 use crate::worked::written_head;
-
-/// The words of a written sheet before its lines.
-const HEAD: usize = 33;
 
 /// Says what is wrong with the rule at the head of a space; gives its length if nothing is.
 pub fn judge_rule(both: &Both, space: &[u16]) -> Result<usize, String> {
@@ -29,13 +27,15 @@ pub fn judge_rule(both: &Both, space: &[u16]) -> Result<usize, String> {
 /// Two lines of the rule at the head of a space that say the same of the same lines, if there are any; an "or" says the same either
 /// way round. No written rule has such lines.
 pub fn twice(space: &[u16]) -> Option<(usize, usize)> {
-    let lines = usize::from(*space.get(3)?);
-    let records = space.get(HEAD..HEAD + 6 * lines)?.chunks_exact(6);
+    let lines = usize::from(*space.get(rule_header::LINES)?);
+    let records = space
+        .get(WRITTEN_HEAD..written_words(lines))?
+        .chunks_exact(line::WORDS);
     let mut said: Vec<Vec<u16>> = Vec::new();
     for (above, record) in records.enumerate() {
         let mut record = record.to_vec();
-        if record[0] == 2 {
-            record[1..3].sort_unstable();
+        if record[line::OPERATION] == operation::OR {
+            record[line::ONE..=line::OTHER].sort_unstable();
         }
         if let Some(before) = said.iter().position(|other| *other == record) {
             return Some((before + 1, above + 1));
@@ -47,13 +47,15 @@ pub fn twice(space: &[u16]) -> Option<(usize, usize)> {
 
 /// The words of the sheet, once its head is right and its lines are few enough.
 fn written_sheet<'a>(both: &Both, space: &'a [u16]) -> Result<&'a [u16], String> {
-    let lines = *space.get(3).ok_or("no room for a header")?;
+    let lines = *space
+        .get(rule_header::LINES)
+        .ok_or("no room for a header")?;
     if !(1..=both.most_lines()).contains(&usize::from(lines)) {
         return Err(format!("{lines} lines"));
     }
-    let length = HEAD + 6 * usize::from(lines);
+    let length = written_words(usize::from(lines));
     let sheet = space.get(..length).ok_or("the rule does not fit")?;
-    match sheet[..HEAD] == written_head(lines) {
+    match sheet[..WRITTEN_HEAD] == written_head(lines) {
         true => Ok(sheet),
         false => Err("the head is not the fixed one".to_string()),
     }
@@ -73,14 +75,14 @@ mod tests {
         Both::read(&worked::m1(), &worked::m3()).expect("a pair to compare")
     }
 
-    fn rule(lines: &[[u16; 6]]) -> Vec<u16> {
+    fn rule(lines: &[[u16; line::WORDS]]) -> Vec<u16> {
         let mut words = written_head(lines.len() as u16);
         words.extend(lines.iter().flatten());
         words
     }
 
-    const SIGNAL: [u16; 6] = [0, 1, 0, 0, 0, 0];
-    const NEXT_OF_FIRST: [u16; 6] = [3, 1, 1, 0, 0, 0];
+    const SIGNAL: [u16; line::WORDS] = [operation::SIGNAL, 1, 0, 0, 0, 0];
+    const NEXT_OF_FIRST: [u16; line::WORDS] = [operation::SOME_PATH, 1, 1, 0, 0, 0];
 
     // Both machines start where the signal is; only in M1 it is there one step later.
     #[test]
@@ -122,7 +124,7 @@ mod tests {
         assert_eq!(say(&foreign_signal), "refused by 16");
         assert_eq!(say(&right[..right.len() - 1]), "the rule does not fit");
         assert_eq!(say(&[]), "no room for a header");
-        for place in (0..HEAD).filter(|&place| place != 3) {
+        for place in (0..WRITTEN_HEAD).filter(|&place| place != rule_header::LINES) {
             let mut words = right.clone();
             words[place] ^= 1;
             assert_eq!(say(&words), "the head is not the fixed one", "word {place}");
@@ -137,7 +139,7 @@ mod tests {
 
     #[test]
     fn a_line_that_stands_twice() {
-        let either = |i: u16, k: u16| [2, i, k, 0, 0, 0];
+        let either = |i: u16, k: u16| [operation::OR, i, k, 0, 0, 0];
         let second = [0, 2, 0, 0, 0, 0];
         assert_eq!(twice(&rule(&[SIGNAL, second, either(1, 2)])), None);
         assert_eq!(twice(&rule(&[SIGNAL, second, SIGNAL])), Some((1, 3)));
@@ -171,7 +173,7 @@ mod tests {
             coverage.note("a word past the rule");
             let mut denied = before.clone();
             denied[..rule.len()].copy_from_slice(&rule);
-            denied[rule.len() - 6..rule.len()].copy_from_slice(&SIGNAL);
+            denied[rule.len() - line::WORDS..rule.len()].copy_from_slice(&SIGNAL);
             let judged = judge(&pair.first, &pair.second, &before, Answer::Unequal, &denied);
             coverage.note(if judged.is_err() {
                 "another last line"

@@ -2,6 +2,7 @@
 
 mod programs;
 
+use checker::format::COMPARED_BYTES;
 use checker::generate::inputs;
 use checker::program::expected_output;
 use checker::rng::Rng;
@@ -48,7 +49,8 @@ fn byte_by_byte() {
 
 #[test]
 fn sizes_at_the_limit() {
-    for length in [0, 1, 2, 19_999, 20_000, 20_001, 20_002, 70_000] {
+    let most = COMPARED_BYTES;
+    for length in [0, 1, 2, most - 1, most, most + 1, most + 2, 70_000] {
         let input = vec![1u8; length];
         assert_eq!(
             String::from_utf8_lossy(&run_in_pieces(&input, 4_096)),

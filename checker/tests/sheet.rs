@@ -4,13 +4,14 @@
 mod programs;
 
 use checker::coverage::Coverage;
+use checker::format::{SHEETS_BYTES, SHEETS_WORDS, TEXT_BYTES};
 use checker::generate::damage::{MACHINE_FAULTS, RULE_FAULTS};
 use checker::generate::machines::machine_sheet;
 use checker::generate::rules::rule_sheet;
 use checker::generate::texts;
 use checker::program::{bytes, words};
 use checker::rng::Rng;
-use checker::text::{self, to_bytes, to_text, Printed, TEXT, WORDS};
+use checker::text::{self, to_bytes, to_text, Printed};
 use checker::{machine, rules, worked};
 use std::fs;
 use std::path::{Path, PathBuf};
@@ -87,11 +88,12 @@ fn random_texts() {
             same(&name, &run(&["bytes"], &back.out), &printed);
         }
     }
+    let too_many = format!("more than {SHEETS_WORDS} words");
     for (answer, least) in [
         ("words", 500),
         ("this is not a decimal number", 100),
         ("the number is above 65535", 100),
-        ("more than 14503 words", 20),
+        (&too_many, 20),
     ] {
         seen.require(answer, least);
     }
@@ -99,12 +101,26 @@ fn random_texts() {
 
 #[test]
 fn sizes_at_the_limit() {
-    for length in [0, 1, 2, 2 * WORDS - 1, 2 * WORDS, 2 * WORDS + 1, 90_000] {
+    for length in [
+        0,
+        1,
+        2,
+        SHEETS_BYTES - 1,
+        SHEETS_BYTES,
+        SHEETS_BYTES + 1,
+        90_000,
+    ] {
         let sheet = vec![255u8; length];
         let name = format!("{length} bytes");
         same(&name, &run(&["text"], &sheet), &to_text(&sheet));
     }
-    for length in [0, TEXT - 1, TEXT, TEXT + 1, 2 * TEXT] {
+    for length in [
+        0,
+        TEXT_BYTES - 1,
+        TEXT_BYTES,
+        TEXT_BYTES + 1,
+        2 * TEXT_BYTES,
+    ] {
         for byte in [b' ', b'#', b'0', b'\n'] {
             let mut text = vec![byte; length];
             if let Some(last) = text.last_mut() {
@@ -138,7 +154,7 @@ const RULES: Check = Check {
 impl Check {
     /// The first line for the bytes of a sheet.
     fn line(&self, sheet: &[u8]) -> String {
-        let Some(words) = words(sheet, 2 * WORDS) else {
+        let Some(words) = words(sheet, SHEETS_BYTES) else {
             return "refused 0 0".to_string();
         };
         match (self.refusal)(&words) {
@@ -154,7 +170,7 @@ impl Check {
         seen.note(&line);
         let printed = run(&[self.word], sheet);
         self.judge(name, &line, &printed);
-        if let Some(words) = words(sheet, 2 * WORDS) {
+        if let Some(words) = words(sheet, SHEETS_BYTES) {
             let text = run(&[self.word, "text"], text::text(&words).as_bytes());
             assert_eq!(text, printed, "{name}, as text");
         }
@@ -232,7 +248,7 @@ fn rule_sheets_are_checked() {
 fn sheets_at_the_limit_are_checked() {
     let mut seen = Coverage::new();
     for check in [MACHINE, RULES] {
-        for length in (0..9).chain(2 * WORDS - 1..2 * WORDS + 3) {
+        for length in (0..9).chain(SHEETS_BYTES - 1..SHEETS_BYTES + 3) {
             check.run(&format!("{length} bytes"), &vec![1; length], &mut seen);
         }
         for length in [250_000, 250_001] {
@@ -241,7 +257,7 @@ fn sheets_at_the_limit_are_checked() {
             let text = run(&[check.word, "text"], &vec![b' '; length]);
             let long = Printed {
                 out: vec![],
-                error: "more than 200000 bytes\n".to_string(),
+                error: format!("more than {TEXT_BYTES} bytes\n"),
             };
             same("a longer text", &text, &long);
         }

@@ -3,9 +3,10 @@
 
 mod programs;
 
+use checker::format::SHEETS_BYTES;
 use checker::path::Asked;
 use checker::program::bytes;
-use checker::shown::{self, BYTES};
+use checker::shown;
 use checker::trial;
 use checker::worked;
 use std::io::Write;
@@ -70,7 +71,8 @@ fn paths_of_inputs() {
 
 #[test]
 fn sizes_at_the_limit() {
-    for length in [0, 1, 2, BYTES - 1, BYTES, BYTES + 1, BYTES + 2, 70_000] {
+    let most = SHEETS_BYTES;
+    for length in [0, 1, 2, most - 1, most, most + 1, most + 2, 70_000] {
         let input = vec![1u8; length];
         let model = shown::model(&input);
         let asked = Asked { line: 0, node: 1 };

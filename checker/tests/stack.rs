@@ -4,6 +4,7 @@
 mod exports;
 
 use checker::compare;
+use checker::format::{rows_words, rule_header, rule_space, BOTH_NODES, LINES, PAIRS, SIGNALS};
 use checker::generate::machines::{lay_out, Graph};
 use checker::generate::pairs::{self, Scale};
 use checker::labelling::Labelling;
@@ -34,7 +35,7 @@ fn with_little_stack<T: Send + 'static>(call: impl FnOnce() -> T + Send + 'stati
 fn labelling_fits() {
     let (machine, rules) = pairs::valid(&mut Rng::for_case(SEED, 0), Scale::Full);
     let answer = with_little_stack(move || {
-        let mut rows = vec![0u64; 2_048];
+        let mut rows = vec![0u64; rows_words(LINES)];
         exports::label(&machine, &rules, &mut rows)
     });
     assert!(matches!(answer, Labelling::Done { .. }), "{answer:?}");
@@ -54,17 +55,17 @@ fn a_path_fits() {
         node: node as u64,
     };
     let answer = with_little_stack(move || {
-        let mut list = vec![(0, 0); 2_048];
+        let mut list = vec![(0, 0); PAIRS];
         exports::path(&machine, &rules, asked, &mut list)
     });
     assert!(matches!(answer, path::Answer::Shown { .. }), "{answer:?}");
 }
 
-/// A machine with 16 signals that starts at its first node, where the first signal is on at one node alone.
+/// A machine with all signals that starts at its first node, where the first signal is on at one node alone.
 fn machine(targets: Vec<Vec<usize>>, marked: usize) -> Vec<u16> {
     let nodes = targets.len();
     let graph = Graph {
-        signals: 16,
+        signals: SIGNALS,
         labels: (0..nodes).map(|node| u16::from(node == marked)).collect(),
         starts: (0..nodes).map(|node| node == 0).collect(),
         targets,
@@ -76,24 +77,27 @@ fn ring(nodes: usize, marked: usize) -> Vec<u16> {
     machine((1..=nodes).map(|next| vec![next % nodes]).collect(), marked)
 }
 
-/// A ring of 64 nodes where some have a second edge, and the same with one edge changed: the rules that tell such machines apart are
+/// The nodes of each machine where both have as many as the two can have.
+const HALF: usize = BOTH_NODES / 2;
+
+/// A ring of so many nodes where some have a second edge, and the same with one edge changed: the rules that tell such machines apart are
 /// the longest that were found.
 fn changed_ring(rng: &mut Rng) -> [Vec<u16>; 2] {
-    let mut targets: Vec<Vec<usize>> = (1..=64).map(|next| vec![next % 64]).collect();
+    let mut targets: Vec<Vec<usize>> = (1..=HALF).map(|next| vec![next % HALF]).collect();
     for edges in &mut targets {
         if rng.chance(1, 4) {
-            edges.push(rng.below(64));
+            edges.push(rng.below(HALF));
         }
     }
-    let marked = rng.below(64);
+    let marked = rng.below(HALF);
     let before = machine(targets.clone(), marked);
-    targets[rng.below(64)][0] = rng.below(64);
+    targets[rng.below(HALF)][0] = rng.below(HALF);
     [before, machine(targets, marked)]
 }
 
-/// Compares two machines of 128 nodes in all; gives the number of lines that are written, 0 where none are.
+/// Compares two machines that have as many nodes as two can have; gives the number of lines that are written, 0 where none are.
 fn lines_of_a_comparison(first: &[u16], second: &[u16]) -> u16 {
-    let before = vec![0; 33 + 6 * (16 + 7 * 128)];
+    let before = vec![0; rule_space(SIGNALS, BOTH_NODES)];
     let [one, other, mut space] = [first, second, &before].map(<[u16]>::to_vec);
     let (answer, space) = with_little_stack(move || {
         let answer = exports::compare(&one, &other, &mut space);
@@ -101,16 +105,17 @@ fn lines_of_a_comparison(first: &[u16], second: &[u16]) -> u16 {
     });
     let judged = compare::judge(first, second, &before, answer, &space);
     assert_eq!(judged, Ok(()));
-    space[3]
+    space[rule_header::LINES]
 }
 
 #[test]
 fn a_comparison_fits() {
+    let most = BOTH_NODES - 1;
     for [first, second] in [
-        [ring(64, 63), ring(64, 63)],
-        [ring(64, 63), ring(64, 62)],
-        [ring(127, 126), ring(1, 0)],
-        [ring(1, 0), ring(127, 126)],
+        [ring(HALF, HALF - 1), ring(HALF, HALF - 1)],
+        [ring(HALF, HALF - 1), ring(HALF, HALF - 2)],
+        [ring(most, most - 1), ring(1, 0)],
+        [ring(1, 0), ring(most, most - 1)],
     ] {
         lines_of_a_comparison(&first, &second);
     }

@@ -1,6 +1,6 @@
 //! Machine sheets for the benchmarks, the same in every run.
 
-use checker::machine::EDGES;
+use checker::format::EDGES;
 use checker::rng::Rng;
 
 /// A machine to be laid out as a sheet. Nodes count from 0; node 0 is the only start.

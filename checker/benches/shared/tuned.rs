@@ -1,6 +1,11 @@
 //! Tuned Rust for the same jobs, over sets of nodes in 128-bit numbers: what the proved code is measured against. It takes accepted
 //! sheets, checks nothing, and writes no rule.
 
+use checker::format::{
+    automaton, edge, line, machine_header, node, operation, rule_header, state, transition,
+    AUTOMATA_FROM, AUTOMATON_STATES, NODES, NODES_FROM, VALUATIONS,
+};
+
 /// What a machine sheet describes, as sets of nodes.
 pub struct Structure {
     nodes: usize,
@@ -15,28 +20,29 @@ pub struct Structure {
 
 impl Structure {
     pub fn read(sheet: &[u16]) -> Structure {
-        let nodes = usize::from(sheet[0]);
-        let (records, edges) = sheet[3..].split_at(3 * nodes);
+        let nodes = usize::from(sheet[machine_header::NODES]);
+        let (records, edges) = sheet[NODES_FROM..].split_at(node::WORDS * nodes);
         let mut read = Structure {
             nodes,
-            signals: vec![0; usize::from(sheet[1])],
+            signals: vec![0; usize::from(sheet[machine_header::SIGNALS])],
             starts: 0,
             targets: vec![0; nodes],
             sources: vec![0; nodes],
         };
-        for (node, record) in records.chunks_exact(3).enumerate() {
+        for (node, record) in records.chunks_exact(node::WORDS).enumerate() {
             for (signal, set) in read.signals.iter_mut().enumerate() {
-                *set |= u128::from(record[0] >> signal & 1) << node;
+                *set |= u128::from(record[node::SIGNALS] >> signal & 1) << node;
             }
-            read.starts |= u128::from(record[1]) << node;
-            let mut edge = usize::from(record[2]);
+            read.starts |= u128::from(record[node::START]) << node;
+            let mut edge = usize::from(record[node::FIRST_EDGE]);
             while edge != 0 {
-                let target = usize::from(edges[2 * edge - 2]) - 1;
+                let first = edge::WORDS * (edge - 1);
+                let target = usize::from(edges[first + edge::TARGET]) - 1;
                 read.targets[node] |= 1 << target;
                 if cfg!(feature = "gathered") {
                     read.sources[target] |= 1 << node;
                 }
-                edge = usize::from(edges[2 * edge - 1]);
+                edge = usize::from(edges[first + edge::NEXT]);
             }
         }
         if !cfg!(feature = "gathered") {
@@ -63,7 +69,7 @@ impl Structure {
 }
 
 fn first_nodes(nodes: usize) -> u128 {
-    u128::MAX >> (128 - nodes)
+    u128::MAX >> (NODES - nodes)
 }
 
 /// The nodes with an edge into the set.
@@ -76,7 +82,7 @@ fn into(sources: &[u128], mut set: u128) -> u128 {
     found
 }
 
-/// Whether two machines with as many signals and at most 128 nodes in all keep the same rules: their nodes, the first machine's
+/// Whether two machines with as many signals and no more nodes in all than two can have keep the same rules: their nodes, the first machine's
 /// lowest, in blocks that are split until nothing splits one.
 pub fn equal(first: &Structure, second: &Structure) -> bool {
     let shift = first.nodes;
@@ -122,19 +128,20 @@ fn split(blocks: &mut Vec<u128>, set: u128, mut told: impl FnMut(usize, usize)) 
 /// The truth rows of a rule sheet, a set of nodes a line.
 pub fn label(machine: &Structure, sheet: &[u16]) -> Vec<u128> {
     let rules = Rules::read(sheet);
-    let lines = rules.lines.chunks_exact(6);
+    let lines = rules.lines.chunks_exact(line::WORDS);
     let mut rows: Vec<u128> = Vec::with_capacity(lines.len());
     for line in lines {
         let row = |place: usize| rows[usize::from(line[place]) - 1];
-        rows.push(match line[0] {
-            0 => machine.signals[usize::from(line[1]) - 1],
-            1 => machine.all() & !row(1),
-            2 => row(1) | row(2),
+        rows.push(match line[line::OPERATION] {
+            operation::SIGNAL => machine.signals[usize::from(line[line::SIGNAL]) - 1],
+            operation::NOT => machine.all() & !row(line::ONE),
+            operation::OR => row(line::ONE) | row(line::OTHER),
             operation => {
-                let automaton = usize::from(line[1]) - 1;
-                let arguments = (2..2 + rules.variables(automaton)).map(row);
+                let automaton = usize::from(line[line::AUTOMATON]) - 1;
+                let places = line::ARGUMENTS..line::ARGUMENTS + rules.variables(automaton);
+                let arguments = places.map(row);
                 let moves = Moves::read(&rules, automaton, machine, arguments);
-                moves.path_row(machine, operation == 3)
+                moves.path_row(machine, operation == operation::SOME_PATH)
             }
         });
     }
@@ -151,10 +158,15 @@ struct Rules<'a> {
 
 impl<'a> Rules<'a> {
     fn read(sheet: &'a [u16]) -> Rules<'a> {
-        let [automata, states, edges] = [sheet[0], sheet[1], sheet[2]].map(usize::from);
-        let (automata, rest) = sheet[4..].split_at(2 * automata);
-        let (states, rest) = rest.split_at(3 * states);
-        let (edges, lines) = rest.split_at(3 * edges);
+        let [automata, states, edges] = [
+            rule_header::AUTOMATA,
+            rule_header::STATES,
+            rule_header::TRANSITIONS,
+        ]
+        .map(|place| usize::from(sheet[place]));
+        let (automata, rest) = sheet[AUTOMATA_FROM..].split_at(automaton::WORDS * automata);
+        let (states, rest) = rest.split_at(state::WORDS * states);
+        let (edges, lines) = rest.split_at(transition::WORDS * edges);
         Rules {
             automata,
             states,
@@ -164,15 +176,19 @@ impl<'a> Rules<'a> {
     }
 
     fn variables(&self, automaton: usize) -> usize {
-        usize::from(self.automata[2 * automaton])
+        usize::from(self.automata[automaton::WORDS * automaton + automaton::VARIABLES])
+    }
+
+    fn first_state(&self, automaton: usize) -> usize {
+        usize::from(self.automata[automaton::WORDS * automaton + automaton::FIRST_STATE])
     }
 
     fn state(&self, number: usize) -> &'a [u16] {
-        &self.states[3 * number - 3..3 * number]
+        &self.states[state::WORDS * (number - 1)..state::WORDS * number]
     }
 
     fn edge(&self, number: usize) -> &'a [u16] {
-        &self.edges[3 * number - 3..3 * number]
+        &self.edges[transition::WORDS * (number - 1)..transition::WORDS * number]
     }
 }
 
@@ -191,11 +207,11 @@ impl Moves {
         arguments: impl Iterator<Item = u128>,
     ) -> Moves {
         let valued = by_valuation(machine.all(), arguments);
-        let mut chain = Vec::with_capacity(16);
-        let mut number = usize::from(rules.automata[2 * automaton + 1]);
+        let mut chain = Vec::with_capacity(AUTOMATON_STATES);
+        let mut number = rules.first_state(automaton);
         while number != 0 {
             chain.push(number);
-            number = usize::from(rules.state(number)[2]);
+            number = usize::from(rules.state(number)[state::NEXT]);
         }
         let states = chain.len();
         let mut moves = Moves {
@@ -204,19 +220,19 @@ impl Moves {
         };
         for (from, &number) in chain.iter().enumerate() {
             let state = rules.state(number);
-            moves.accepting.push(state[0] == 1);
-            let mut edge = usize::from(state[1]);
+            moves.accepting.push(state[state::ACCEPTING] == 1);
+            let mut edge = usize::from(state[state::FIRST_TRANSITION]);
             while edge != 0 {
                 let record = rules.edge(edge);
-                let target = usize::from(record[0]);
+                let target = usize::from(record[transition::TARGET]);
                 let to = chain.iter().position(|&state| state == target);
                 let nodes = &mut moves.nodes[from * states + to.expect("on the chain")];
                 for (valuation, set) in valued.iter().enumerate() {
-                    if record[1] >> valuation & 1 == 1 {
+                    if record[transition::MASK] >> valuation & 1 == 1 {
                         *nodes |= set;
                     }
                 }
-                edge = usize::from(record[2]);
+                edge = usize::from(record[transition::NEXT]);
             }
         }
         moves
@@ -305,7 +321,7 @@ impl Moves {
 
 /// For each valuation of the argument lines, the nodes that have it.
 fn by_valuation(all: u128, arguments: impl Iterator<Item = u128>) -> Vec<u128> {
-    let mut sets = Vec::with_capacity(16);
+    let mut sets = Vec::with_capacity(VALUATIONS);
     sets.push(all);
     for row in arguments {
         for place in 0..sets.len() {

@@ -3,8 +3,11 @@
 //! question may find it first. The tests count what came of it.
 
 use super::{MachineSheet, RuleSheet};
+use crate::format::{
+    automaton, edge, line, machine_header, node, operation, rule_header, state, transition,
+    AUTOMATA, AUTOMATON_STATES, EDGES, LINES, NODES, SIGNALS, STATES, TRANSITIONS, VARIABLES,
+};
 use crate::rng::Rng;
-use crate::rules::CHAIN;
 
 /// One fault of a machine sheet.
 pub type MachineFault = fn(&mut Rng, &mut MachineSheet);
@@ -82,8 +85,8 @@ fn link(rng: &mut Rng, own: usize, last: usize) -> u16 {
 }
 
 /// A header word at or past a bound, or one off its present value.
-fn near(rng: &mut Rng, word: u16, bounds: [u16; 2]) -> u16 {
-    let [low, high] = bounds;
+fn near(rng: &mut Rng, word: u16, bounds: [usize; 2]) -> u16 {
+    let [low, high] = bounds.map(|bound| bound as u16);
     let one_off = [word.wrapping_sub(1), word.wrapping_add(1)];
     let at = [low, low.wrapping_sub(1), high, high + 1, u16::MAX];
     if rng.chance(1, 3) {
@@ -94,8 +97,8 @@ fn near(rng: &mut Rng, word: u16, bounds: [u16; 2]) -> u16 {
 }
 
 fn machine_header(rng: &mut Rng, sheet: &mut MachineSheet) {
-    let word = rng.below(3);
-    let bounds = [[1, 128], [1, 16], [1, 2048]][word];
+    let word = rng.below(machine_header::WORDS);
+    let bounds = [[1, NODES], [1, SIGNALS], [1, EDGES]][word];
     sheet.header[word] = near(rng, sheet.header[word], bounds);
 }
 
@@ -110,50 +113,50 @@ fn machine_record_count(rng: &mut Rng, sheet: &mut MachineSheet) {
 }
 
 fn signal_past_the_last(rng: &mut Rng, sheet: &mut MachineSheet) {
-    let signals = sheet.header[1];
-    if let (Some(node), 0..=15) = (record(rng, sheet.nodes.len()), signals) {
+    let signals = usize::from(sheet.header[machine_header::SIGNALS]);
+    if let (Some(node), true) = (record(rng, sheet.nodes.len()), signals < SIGNALS) {
         let bit = if rng.chance(1, 2) {
-            usize::from(signals)
+            signals
         } else {
-            15
+            SIGNALS - 1
         };
-        sheet.nodes[node][0] |= 1 << bit;
+        sheet.nodes[node][node::SIGNALS] |= 1 << bit;
     }
 }
 
 fn start_flag(rng: &mut Rng, sheet: &mut MachineSheet) {
     if let Some(node) = record(rng, sheet.nodes.len()) {
-        sheet.nodes[node][1] = *rng.pick(&[0, 1, 2, 2, 3, u16::MAX]);
+        sheet.nodes[node][node::START] = *rng.pick(&[0, 1, 2, 2, 3, u16::MAX]);
     }
 }
 
 fn first_edge_of_node(rng: &mut Rng, sheet: &mut MachineSheet) {
     if let Some(node) = record(rng, sheet.nodes.len()) {
-        sheet.nodes[node][2] = index(rng, sheet.edges.len());
+        sheet.nodes[node][node::FIRST_EDGE] = index(rng, sheet.edges.len());
     }
 }
 
 fn machine_edge_target(rng: &mut Rng, sheet: &mut MachineSheet) {
     if let Some(edge) = record(rng, sheet.edges.len()) {
-        sheet.edges[edge][0] = index(rng, sheet.nodes.len());
+        sheet.edges[edge][edge::TARGET] = index(rng, sheet.nodes.len());
     }
 }
 
 fn machine_edge_link(rng: &mut Rng, sheet: &mut MachineSheet) {
     if let Some(edge) = record(rng, sheet.edges.len()) {
-        sheet.edges[edge][1] = link(rng, edge + 1, sheet.edges.len());
+        sheet.edges[edge][edge::NEXT] = link(rng, edge + 1, sheet.edges.len());
     }
 }
 
 fn no_start(_: &mut Rng, sheet: &mut MachineSheet) {
     for node in &mut sheet.nodes {
-        node[1] = 0;
+        node[node::START] = 0;
     }
 }
 
 fn rule_header(rng: &mut Rng, sheet: &mut RuleSheet) {
-    let word = rng.below(4);
-    let bounds = [[0, 16], [0, 256], [0, 1024], [1, 1024]][word];
+    let word = rng.below(rule_header::WORDS);
+    let bounds = [[0, AUTOMATA], [0, STATES], [0, TRANSITIONS], [1, LINES]][word];
     sheet.header[word] = near(rng, sheet.header[word], bounds);
 }
 
@@ -163,7 +166,7 @@ fn rule_record_count(rng: &mut Rng, sheet: &mut RuleSheet) {
         0 => sheet.automata.push([0, 1]),
         1 => sheet.states.push([0, 1, 0]),
         2 => sheet.edges.push([1, 0, 0]),
-        3 => sheet.lines.push([0, 1, 0, 0, 0, 0]),
+        3 => sheet.lines.push([operation::SIGNAL, 1, 0, 0, 0, 0]),
         4 => drop(sheet.automata.pop()),
         5 => drop(sheet.states.pop()),
         6 => drop(sheet.edges.pop()),
@@ -173,43 +176,45 @@ fn rule_record_count(rng: &mut Rng, sheet: &mut RuleSheet) {
 
 fn variables(rng: &mut Rng, sheet: &mut RuleSheet) {
     if let Some(automaton) = record(rng, sheet.automata.len()) {
-        sheet.automata[automaton][0] = *rng.pick(&[0, 3, 4, 5, 5, 6, u16::MAX]);
+        let most = VARIABLES as u16;
+        let values = [0, most - 1, most, most + 1, most + 1, most + 2, u16::MAX];
+        sheet.automata[automaton][automaton::VARIABLES] = *rng.pick(&values);
     }
 }
 
 fn first_state(rng: &mut Rng, sheet: &mut RuleSheet) {
     if let Some(automaton) = record(rng, sheet.automata.len()) {
-        sheet.automata[automaton][1] = index(rng, sheet.states.len());
+        sheet.automata[automaton][automaton::FIRST_STATE] = index(rng, sheet.states.len());
     }
 }
 
 fn accepting_word(rng: &mut Rng, sheet: &mut RuleSheet) {
     if let Some(state) = record(rng, sheet.states.len()) {
-        sheet.states[state][0] = *rng.pick(&[2, 2, 3, 256, u16::MAX]);
+        sheet.states[state][state::ACCEPTING] = *rng.pick(&[2, 2, 3, 256, u16::MAX]);
     }
 }
 
 fn first_edge_of_state(rng: &mut Rng, sheet: &mut RuleSheet) {
     if let Some(state) = record(rng, sheet.states.len()) {
-        sheet.states[state][1] = index(rng, sheet.edges.len());
+        sheet.states[state][state::FIRST_TRANSITION] = index(rng, sheet.edges.len());
     }
 }
 
 fn state_link(rng: &mut Rng, sheet: &mut RuleSheet) {
     if let Some(state) = record(rng, sheet.states.len()) {
-        sheet.states[state][2] = link(rng, state + 1, sheet.states.len());
+        sheet.states[state][state::NEXT] = link(rng, state + 1, sheet.states.len());
     }
 }
 
 fn rule_edge_target(rng: &mut Rng, sheet: &mut RuleSheet) {
     if let Some(edge) = record(rng, sheet.edges.len()) {
-        sheet.edges[edge][0] = index(rng, sheet.states.len());
+        sheet.edges[edge][transition::TARGET] = index(rng, sheet.states.len());
     }
 }
 
 fn rule_edge_link(rng: &mut Rng, sheet: &mut RuleSheet) {
     if let Some(edge) = record(rng, sheet.edges.len()) {
-        sheet.edges[edge][2] = link(rng, edge + 1, sheet.edges.len());
+        sheet.edges[edge][transition::NEXT] = link(rng, edge + 1, sheet.edges.len());
     }
 }
 
@@ -230,7 +235,7 @@ fn spot(rng: &mut Rng, sheet: &RuleSheet) -> Option<Spot> {
     let chain = sheet.chain_of(automaton);
     let state = chain[record(rng, chain.len())?];
     Some(Spot {
-        variables: sheet.automata[automaton][0],
+        variables: sheet.automata[automaton][automaton::VARIABLES],
         edges: sheet.edges_out_of(state),
         chain,
         state,
@@ -239,34 +244,34 @@ fn spot(rng: &mut Rng, sheet: &RuleSheet) -> Option<Spot> {
 
 /// A valuation of the automaton at a spot.
 fn valuation(rng: &mut Rng, spot: &Spot) -> u16 {
-    rng.below(1 << spot.variables.min(4)) as u16
+    rng.below(1 << spot.variables.min(VARIABLES as u16)) as u16
 }
 
 /// Lengthens a chain to the limit, or by one more. The new states lead to themselves.
 fn long_chain(rng: &mut Rng, sheet: &mut RuleSheet) {
     let Some(spot) = spot(rng, sheet) else { return };
-    let wanted = CHAIN + rng.below(2);
-    let full = (1u32 << (1 << spot.variables.min(4))) - 1;
+    let wanted = AUTOMATON_STATES + rng.below(2);
+    let full = (1u32 << (1 << spot.variables.min(VARIABLES as u16))) - 1;
     let mut last = spot.chain[spot.chain.len() - 1];
     for _ in spot.chain.len()..wanted {
         let number = sheet.states.len() as u16 + 1;
         sheet.edges.push([number, full as u16, 0]);
-        sheet.states[last][2] = number;
+        sheet.states[last][state::NEXT] = number;
         sheet
             .states
             .push([rng.below(2) as u16, sheet.edges.len() as u16, 0]);
         last = sheet.states.len() - 1;
     }
-    sheet.header[1] = sheet.states.len() as u16;
-    sheet.header[2] = sheet.edges.len() as u16;
+    sheet.header[rule_header::STATES] = sheet.states.len() as u16;
+    sheet.header[rule_header::TRANSITIONS] = sheet.edges.len() as u16;
 }
 
 fn mask_at_its_bound(rng: &mut Rng, sheet: &mut RuleSheet) {
     let Some(spot) = spot(rng, sheet) else { return };
-    let bound = 1u32 << (1 << spot.variables.min(4));
+    let bound = 1u32 << (1 << spot.variables.min(VARIABLES as u16));
     let edge = *rng.pick(&spot.edges);
     let values = [bound - 1, bound, bound, bound + 1, u32::from(u16::MAX)];
-    sheet.edges[edge][1] = *rng.pick(&values) as u16;
+    sheet.edges[edge][transition::MASK] = *rng.pick(&values) as u16;
 }
 
 /// A target of another chain, or of none.
@@ -277,7 +282,7 @@ fn target_off_the_chain(rng: &mut Rng, sheet: &mut RuleSheet) {
         .collect();
     if !others.is_empty() {
         let edge = *rng.pick(&spot.edges);
-        sheet.edges[edge][0] = *rng.pick(&others) as u16 + 1;
+        sheet.edges[edge][transition::TARGET] = *rng.pick(&others) as u16 + 1;
     }
 }
 
@@ -285,7 +290,7 @@ fn target_off_the_chain(rng: &mut Rng, sheet: &mut RuleSheet) {
 fn target_twice(rng: &mut Rng, sheet: &mut RuleSheet) {
     let Some(spot) = spot(rng, sheet) else { return };
     let (one, other) = (*rng.pick(&spot.edges), *rng.pick(&spot.edges));
-    sheet.edges[one][0] = sheet.edges[other][0];
+    sheet.edges[one][transition::TARGET] = sheet.edges[other][transition::TARGET];
 }
 
 /// One more edge at the end of a state's chain: a target twice, an overlap, or, with mask zero
@@ -304,17 +309,17 @@ fn another_edge(rng: &mut Rng, sheet: &mut RuleSheet) {
 fn mask_bit_turned(rng: &mut Rng, sheet: &mut RuleSheet) {
     let Some(spot) = spot(rng, sheet) else { return };
     let edge = *rng.pick(&spot.edges);
-    sheet.edges[edge][1] ^= 1 << valuation(rng, &spot);
+    sheet.edges[edge][transition::MASK] ^= 1 << valuation(rng, &spot);
 }
 
 fn mask_emptied(rng: &mut Rng, sheet: &mut RuleSheet) {
     let Some(spot) = spot(rng, sheet) else { return };
-    sheet.edges[*rng.pick(&spot.edges)][1] = 0;
+    sheet.edges[*rng.pick(&spot.edges)][transition::MASK] = 0;
 }
 
 fn acceptance_turned(rng: &mut Rng, sheet: &mut RuleSheet) {
     let Some(spot) = spot(rng, sheet) else { return };
-    sheet.states[spot.state][0] ^= 1;
+    sheet.states[spot.state][state::ACCEPTING] ^= 1;
 }
 
 /// Walks some steps from a state that has a step to the other kind, and leads the last state of
@@ -322,11 +327,11 @@ fn acceptance_turned(rng: &mut Rng, sheet: &mut RuleSheet) {
 fn cycle_closed(rng: &mut Rng, sheet: &mut RuleSheet) {
     let Some(spot) = spot(rng, sheet) else { return };
     let leads_to_other_kind = |&state: &usize| {
-        let kind = sheet.states[state][0];
+        let kind = sheet.states[state][state::ACCEPTING];
         let targets = taken_targets(sheet, state);
         targets
             .iter()
-            .any(|&target| sheet.states[target][0] != kind)
+            .any(|&target| sheet.states[target][state::ACCEPTING] != kind)
     };
     let heads: Vec<usize> = spot
         .chain
@@ -357,8 +362,11 @@ fn cycle_closed(rng: &mut Rng, sheet: &mut RuleSheet) {
 /// The places of the states to which edges with nonzero masks lead.
 fn taken_targets(sheet: &RuleSheet, state: usize) -> Vec<usize> {
     let edges = sheet.edges_out_of(state);
-    let taken = edges.iter().filter(|&&edge| sheet.edges[edge][1] != 0);
-    let targets = taken.map(|&edge| usize::from(sheet.edges[edge][0]).saturating_sub(1));
+    let taken = edges
+        .iter()
+        .filter(|&&edge| sheet.edges[edge][transition::MASK] != 0);
+    let targets =
+        taken.map(|&edge| usize::from(sheet.edges[edge][transition::TARGET]).saturating_sub(1));
     targets
         .filter(|&target| target < sheet.states.len())
         .collect()
@@ -369,39 +377,55 @@ fn taken_targets(sheet: &RuleSheet, state: usize) -> Vec<usize> {
 fn lead_back(sheet: &mut RuleSheet, from: usize, to: usize, bit: u16) {
     let edges = sheet.edges_out_of(from);
     for &edge in &edges {
-        sheet.edges[edge][1] &= !bit;
+        sheet.edges[edge][transition::MASK] &= !bit;
     }
     let number = to as u16 + 1;
-    match edges.iter().find(|&&edge| sheet.edges[edge][0] == number) {
-        Some(&edge) => sheet.edges[edge][1] |= bit,
+    match edges
+        .iter()
+        .find(|&&edge| sheet.edges[edge][transition::TARGET] == number)
+    {
+        Some(&edge) => sheet.edges[edge][transition::MASK] |= bit,
         None => append_edge(sheet, &edges, number, bit),
     }
 }
 
 fn append_edge(sheet: &mut RuleSheet, edges: &[usize], target: u16, mask: u16) {
     sheet.edges.push([target, mask, 0]);
-    sheet.header[2] = sheet.edges.len() as u16;
+    sheet.header[rule_header::TRANSITIONS] = sheet.edges.len() as u16;
     let last = edges[edges.len() - 1];
-    sheet.edges[last][2] = sheet.edges.len() as u16;
+    sheet.edges[last][transition::NEXT] = sheet.edges.len() as u16;
 }
 
 fn line_operation(rng: &mut Rng, sheet: &mut RuleSheet) {
     if let Some(line) = record(rng, sheet.lines.len()) {
-        sheet.lines[line][0] = *rng.pick(&[0, 1, 2, 3, 4, 5, 5, 6, 256, u16::MAX]);
+        let last = operation::SOME_PATH_NOT;
+        let values = [
+            operation::SIGNAL,
+            operation::NOT,
+            operation::OR,
+            operation::SOME_PATH,
+            last,
+            last + 1,
+            last + 1,
+            last + 2,
+            256,
+            u16::MAX,
+        ];
+        sheet.lines[line][line::OPERATION] = *rng.pick(&values);
     }
 }
 
 /// A reference to a line above, to the line itself, below, to none.
 fn line_word(rng: &mut Rng, sheet: &mut RuleSheet) {
     if let Some(line) = record(rng, sheet.lines.len()) {
-        let word = rng.between(1, 5);
+        let word = rng.between(1, line::WORDS - 1);
         sheet.lines[line][word] = link(rng, line + 1, sheet.lines.len());
     }
 }
 
 fn unused_line_word(rng: &mut Rng, sheet: &mut RuleSheet) {
     if let Some(line) = record(rng, sheet.lines.len()) {
-        let zeros: Vec<usize> = (1..6)
+        let zeros: Vec<usize> = (1..line::WORDS)
             .filter(|&word| sheet.lines[line][word] == 0)
             .collect();
         if !zeros.is_empty() {
@@ -413,20 +437,22 @@ fn unused_line_word(rng: &mut Rng, sheet: &mut RuleSheet) {
 /// A line of the kind that takes a certain number as its first word.
 fn line_of(rng: &mut Rng, sheet: &RuleSheet, operations: &[u16]) -> Option<usize> {
     let fitting: Vec<usize> = (0..sheet.lines.len())
-        .filter(|&line| operations.contains(&sheet.lines[line][0]))
+        .filter(|&line| operations.contains(&sheet.lines[line][line::OPERATION]))
         .collect();
     record(rng, fitting.len()).map(|index| fitting[index])
 }
 
 fn signal_number(rng: &mut Rng, sheet: &mut RuleSheet) {
-    if let Some(line) = line_of(rng, sheet, &[0]) {
-        sheet.lines[line][1] = *rng.pick(&[0, 1, 16, 17, 17, u16::MAX]);
+    if let Some(line) = line_of(rng, sheet, &[operation::SIGNAL]) {
+        let last = SIGNALS as u16;
+        sheet.lines[line][line::SIGNAL] = *rng.pick(&[0, 1, last, last + 1, last + 1, u16::MAX]);
     }
 }
 
 fn automaton_number(rng: &mut Rng, sheet: &mut RuleSheet) {
-    if let Some(line) = line_of(rng, sheet, &[3, 4]) {
-        sheet.lines[line][1] = index(rng, sheet.automata.len());
+    let operations = [operation::SOME_PATH, operation::SOME_PATH_NOT];
+    if let Some(line) = line_of(rng, sheet, &operations) {
+        sheet.lines[line][line::AUTOMATON] = index(rng, sheet.automata.len());
     }
 }
 
@@ -438,15 +464,16 @@ impl RuleSheet {
         let is_link = |word: u16, own: usize, last: usize| {
             word == 0 || (usize::from(word) > own && usize::from(word) <= last)
         };
-        let state_is_sound = |(place, state): (usize, &[u16; 3])| {
-            is_number(state[1], edges) && is_link(state[2], place + 1, states)
+        let state_is_sound = |(place, state): (usize, &[u16; state::WORDS])| {
+            is_number(state[state::FIRST_TRANSITION], edges)
+                && is_link(state[state::NEXT], place + 1, states)
         };
         let mut edge_records = self.edges.iter().enumerate();
         self.automata
             .iter()
-            .all(|automaton| is_number(automaton[1], states))
+            .all(|automaton| is_number(automaton[automaton::FIRST_STATE], states))
             && self.states.iter().enumerate().all(state_is_sound)
-            && edge_records.all(|(place, edge)| is_link(edge[2], place + 1, edges))
+            && edge_records.all(|(place, edge)| is_link(edge[transition::NEXT], place + 1, edges))
     }
 }
 
@@ -460,7 +487,7 @@ pub fn any_word(rng: &mut Rng, words: &mut [u16]) {
     words[place] = match rng.below(6) {
         0 => word.wrapping_add(1),
         1 => word.wrapping_sub(1),
-        2 => word ^ 1 << rng.below(16),
+        2 => word ^ 1 << rng.below(u16::BITS as usize),
         3 => rng.below(20) as u16,
         4 => *rng.pick(words),
         _ => rng.word(),

@@ -2,9 +2,10 @@
 //! trailing bytes, empty, and around the longest that is read.
 
 use super::machine_pairs;
+use crate::format::{SHEETS_BYTES, TEXT_BYTES};
 use crate::program::bytes;
 use crate::rng::Rng;
-use crate::text::{text, TEXT, WORDS};
+use crate::text::text;
 
 /// What is in a file, and whether it is a text.
 #[derive(Clone, Debug, PartialEq, Eq)]
@@ -71,7 +72,7 @@ pub fn with_trailing_bytes(sheets: [&[u16]; 2]) -> Vec<Pair> {
 
 /// A sheet beside an empty file, two empty files, and files around the longest that are read.
 pub fn empty_and_long(sheet: &[u16]) -> Vec<Pair> {
-    let most = 2 * WORDS;
+    let most = SHEETS_BYTES;
     let mut others = vec![Content::of(&[], false), Content::of(&[], true)];
     for length in [most - 1, most, most + 1, most + 2] {
         others.push(Content {
@@ -79,7 +80,7 @@ pub fn empty_and_long(sheet: &[u16]) -> Vec<Pair> {
             bytes: vec![1; length],
         });
     }
-    for length in [TEXT, TEXT + 1] {
+    for length in [TEXT_BYTES, TEXT_BYTES + 1] {
         let mut long = Content::of(sheet, true);
         long.bytes.resize(length, b' ');
         others.push(long);

@@ -3,20 +3,20 @@
 
 use super::machine_pairs;
 use super::pairs::{self, Scale};
-use crate::program::{bytes, BYTES};
+use crate::format::{COMPARED_BYTES, SHEETS_BYTES};
+use crate::program::bytes;
 use crate::rng::Rng;
-use crate::shown;
 
 /// An input of any kind for the comparing program: two machines.
 pub fn any(rng: &mut Rng) -> Vec<u8> {
     let pair = machine_pairs::any(rng);
-    altered(rng, &pair.first, &pair.second, BYTES)
+    altered(rng, &pair.first, &pair.second, COMPARED_BYTES)
 }
 
 /// An input of any kind for the programs that label and show paths: a machine and a rule.
 pub fn machine_and_rules(rng: &mut Rng, scale: Scale) -> Vec<u8> {
     let (machine, rules) = pairs::any(rng, scale);
-    altered(rng, &machine, &rules, shown::BYTES)
+    altered(rng, &machine, &rules, SHEETS_BYTES)
 }
 
 /// Two sheets, often as they are.
@@ -65,8 +65,8 @@ mod tests {
             coverage.note(expected_output(&input).trim_end());
             coverage.note(match input.len() {
                 0 => "empty",
-                BYTES => "as long as can be",
-                length if length == BYTES + 1 => "one byte too long",
+                COMPARED_BYTES => "as long as can be",
+                length if length == COMPARED_BYTES + 1 => "one byte too long",
                 length if length % 2 == 1 => "odd",
                 _ => "even",
             });

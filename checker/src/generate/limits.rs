@@ -4,8 +4,12 @@
 
 use super::machines::{graph, lay_out};
 use super::rules::{sheet_for, Wish};
+use crate::format::{
+    machine_words, rule_words, AUTOMATA, EDGES, LINES, NODES, SIGNALS, STATES, TRANSITIONS,
+};
 use crate::rng::Rng;
 use crate::worked;
+use std::ops::RangeInclusive;
 
 /// A sheet lent out of a longer list of words. What stands past its end is not there.
 #[derive(Clone, Debug)]
@@ -34,17 +38,34 @@ impl Lent {
     }
 }
 
-/// Values at and around every limit of both sheets, and at every record number of a small one.
-const VALUES: [u16; 31] = [
-    0, 1, 2, 3, 4, 5, 6, 7, 8, 9, 10, 11, 12, 13, 14, 15, 16, 17, 18, 127, 128, 129, 255, 256, 257,
-    1024, 1025, 2048, 2049, 32768, 65535,
+/// The record numbers of a small sheet, and with them the values around each small limit.
+const SMALL: RangeInclusive<usize> = 0..=18;
+
+/// The values around each large limit; transitions and lines have the same one. The last are the highest bit and the largest word.
+const LARGE: [usize; 12] = [
+    NODES - 1,
+    NODES,
+    NODES + 1,
+    STATES - 1,
+    STATES,
+    STATES + 1,
+    LINES,
+    LINES + 1,
+    EDGES,
+    EDGES + 1,
+    1 << (u16::BITS - 1),
+    WORD,
 ];
+
+/// The largest word.
+const WORD: usize = u16::MAX as usize;
 
 /// The sheet with one word changed, for each word and each value, and for each bit of the word.
 pub fn each_word_at_each_limit(words: &[u16]) -> impl Iterator<Item = Vec<u16>> + '_ {
     (0..words.len()).flat_map(move |place| {
-        let turned = (0..16).map(move |bit| words[place] ^ 1 << bit);
-        VALUES.into_iter().chain(turned).map(move |value| {
+        let turned = (0..u16::BITS).map(move |bit| words[place] ^ 1 << bit);
+        let values = SMALL.chain(LARGE).map(|value| value as u16);
+        values.chain(turned).map(move |value| {
             let mut changed = words.to_vec();
             changed[place] = value;
             changed
@@ -80,11 +101,11 @@ fn filled(header: &[u16], asked: usize, extra: isize, fill: u16) -> Option<Vec<u
 /// for, one word less and one more, and of the header alone.
 pub fn machine_headers() -> Vec<Vec<u16>> {
     let mut sheets = Vec::new();
-    for n in [0, 1, 2, 127, 128, 129, 65535] {
-        for a in [0, 1, 15, 16, 17, 65535] {
-            for e in [0, 1, 2, 2047, 2048, 2049, 65535] {
-                let header = [n, a, e];
-                let asked = 3 + 3 * usize::from(n) + 2 * usize::from(e);
+    for n in [0, 1, 2, NODES - 1, NODES, NODES + 1, WORD] {
+        for a in [0, 1, SIGNALS - 1, SIGNALS, SIGNALS + 1, WORD] {
+            for e in [0, 1, 2, EDGES - 1, EDGES, EDGES + 1, WORD] {
+                let header = [n, a, e].map(|count| count as u16);
+                let asked = machine_words(n, e);
                 for extra in [0, -1, 1] {
                     sheets.extend(filled(&header, asked, extra, 1));
                     sheets.extend(filled(&header, asked, extra, 0));
@@ -99,13 +120,12 @@ pub fn machine_headers() -> Vec<Vec<u16>> {
 /// Rule headers, likewise.
 pub fn rule_headers() -> Vec<Vec<u16>> {
     let mut sheets = Vec::new();
-    for k in [0, 1, 16, 17, 65535] {
-        for m in [0, 1, 256, 257, 65535] {
-            for e in [0, 1, 1024, 1025, 65535] {
-                for l in [0, 1, 1024, 1025, 65535] {
-                    let header = [k, m, e, l];
-                    let [k, m, e, l] = header.map(usize::from);
-                    let asked = 4 + 2 * k + 3 * (m + e) + 6 * l;
+    for k in [0, 1, AUTOMATA, AUTOMATA + 1, WORD] {
+        for m in [0, 1, STATES, STATES + 1, WORD] {
+            for e in [0, 1, TRANSITIONS, TRANSITIONS + 1, WORD] {
+                for l in [0, 1, LINES, LINES + 1, WORD] {
+                    let header = [k, m, e, l].map(|count| count as u16);
+                    let asked = rule_words(k, m, e, l);
                     for extra in [0, -1, 1] {
                         sheets.extend(filled(&header, asked, extra, 1));
                     }
@@ -128,7 +148,7 @@ pub fn small_machines(rng: &mut Rng, count: usize) -> Vec<Vec<u16>> {
         worked::m6(),
     ];
     for _ in 0..count {
-        let (nodes, signals) = (rng.between(1, 4), *rng.pick(&[1, 2, 15, 16]));
+        let (nodes, signals) = (rng.between(1, 4), *rng.pick(&[1, 2, SIGNALS - 1, SIGNALS]));
         let graph = graph(rng, nodes, signals);
         sheets.push(lay_out(rng, &graph).words());
     }
@@ -149,7 +169,7 @@ pub fn small_rules(rng: &mut Rng, count: usize) -> Vec<Vec<u16>> {
     ];
     for _ in 0..count {
         let wish = Wish {
-            signals: 16,
+            signals: SIGNALS,
             automata: rng.between(0, 3),
             chain: rng.between(1, 4),
             lines: rng.between(1, 5),
@@ -168,10 +188,12 @@ mod tests {
     #[test]
     fn headers_at_their_bounds_pass_the_first_question() {
         let machines = machine_headers();
-        assert!(machines.iter().any(|words| words[..3] == [128, 16, 2048]
+        let largest = [NODES, SIGNALS, EDGES].map(|count| count as u16);
+        assert!(machines.iter().any(|words| words.starts_with(&largest)
             && machine::refusal(words).is_some_and(|number| number > 2)));
         let rules = rule_headers();
-        assert!(rules.iter().any(|words| words[..4] == [16, 256, 1024, 1024]
+        let largest = [AUTOMATA, STATES, TRANSITIONS, LINES].map(|count| count as u16);
+        assert!(rules.iter().any(|words| words.starts_with(&largest)
             && rules::refusal(words).is_some_and(|number| number > 8)));
     }
 

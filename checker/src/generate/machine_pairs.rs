@@ -4,8 +4,7 @@
 
 use super::damage::{any_word, MACHINE_FAULTS};
 use super::machines::{all_signals, graph, lay_out, Graph};
-use crate::compare::NODES;
-use crate::machine::{EDGES, SIGNALS};
+use crate::format::{machine_header, rule_space, BOTH_NODES, EDGES, NODES, SIGNALS};
 use crate::rng::Rng;
 
 /// Words of two machine sheets, and the space that is lent for the rule.
@@ -57,7 +56,7 @@ pub fn of_kind(rng: &mut Rng, kind: Kind) -> MachinePair {
     let (first, second) = match kind {
         Kind::Refused => refused(rng),
         Kind::Itself => {
-            let nodes = small_or(rng, NODES / 2);
+            let nodes = small_or(rng, BOTH_NODES / 2);
             let signals = signals(rng);
             let sheet = sheet(rng, nodes, signals);
             (sheet.clone(), sheet)
@@ -101,12 +100,12 @@ fn small_or(rng: &mut Rng, most: usize) -> usize {
 /// The nodes of both machines: at times all there can be, as 64 + 64, 1 + 127 and 127 + 1.
 fn sizes(rng: &mut Rng) -> (usize, usize) {
     match rng.below(60) {
-        0 => (NODES / 2, NODES / 2),
-        1 => (1, NODES - 1),
-        2 => (NODES - 1, 1),
+        0 => (BOTH_NODES / 2, BOTH_NODES / 2),
+        1 => (1, BOTH_NODES - 1),
+        2 => (BOTH_NODES - 1, 1),
         3 => {
-            let first = rng.between(1, NODES - 1);
-            (first, rng.between(1, NODES - first))
+            let first = rng.between(1, BOTH_NODES - 1);
+            (first, rng.between(1, BOTH_NODES - first))
         }
         _ => (rng.between(1, 9), rng.between(1, 9)),
     }
@@ -294,7 +293,7 @@ fn chains(rng: &mut Rng, first: usize, second: usize, signals: usize) -> (Graph,
         false => end,
     };
     let other = if rng.chance(1, 2) { first } else { second };
-    let other = other.min(NODES - first);
+    let other = other.min(BOTH_NODES - first);
     (
         chain(rng, first, signals, label, end),
         chain(rng, other, signals, label, other_end),
@@ -332,12 +331,12 @@ fn refused(rng: &mut Rng) -> (Vec<u16>, Vec<u16>) {
     match rng.below(6) {
         0 => (sheet(rng, nodes, signals), sheet(rng, nodes, signals + 1)),
         1 => {
-            let first = rng.between(1, NODES);
-            let second = NODES + 1 - first;
+            let first = rng.between(1, BOTH_NODES);
+            let second = BOTH_NODES + 1 - first;
             (sheet(rng, first, signals), sheet(rng, second, signals))
         }
         2 => {
-            let nodes = rng.between(NODES / 2 + 1, NODES);
+            let nodes = rng.between(BOTH_NODES / 2 + 1, BOTH_NODES);
             let whole = sheet(rng, nodes, signals);
             (whole.clone(), whole)
         }
@@ -367,9 +366,12 @@ fn faulty(rng: &mut Rng, nodes: usize, signals: usize) -> Vec<u16> {
 
 /// A space for the rule: exact, one word short, longer, or any shorter, full of other words.
 fn space(rng: &mut Rng, first: &[u16], second: &[u16]) -> Vec<u16> {
-    let count = |words: &[u16]| usize::from(words.first().copied().unwrap_or(0)).min(NODES);
-    let signals = usize::from(first.get(1).copied().unwrap_or(0)).min(SIGNALS);
-    let asked = 33 + 6 * (signals + 7 * (count(first) + count(second)));
+    let count = |words: &[u16], place: usize, most: usize| {
+        usize::from(words.get(place).copied().unwrap_or(0)).min(most)
+    };
+    let nodes = |words: &[u16]| count(words, machine_header::NODES, NODES);
+    let signals = count(first, machine_header::SIGNALS, SIGNALS);
+    let asked = rule_space(signals, nodes(first) + nodes(second));
     let length = match rng.below(12) {
         0 => asked - 1,
         1 => rng.below(asked),
@@ -405,7 +407,8 @@ mod tests {
             let answer = answer(&pair);
             coverage.note(&format!("{kind:?}: {answer}"));
             coverage.note(&answer);
-            if pair.first.first() == Some(&1) && pair.second.first() == Some(&127) {
+            let nodes = [&pair.first, &pair.second].map(|words| words.first().copied());
+            if nodes == [Some(1), Some(BOTH_NODES as u16 - 1)] {
                 coverage.note("1 + 127 nodes");
             }
         }

@@ -4,7 +4,7 @@
 
 use super::chains::Chains;
 use super::{size, MachineSheet};
-use crate::machine::{EDGES, NODES, SIGNALS};
+use crate::format::{EDGES, NODES, SIGNALS};
 use crate::rng::Rng;
 
 /// A Kripke structure to be laid out. Nodes count from 0; each list of targets has one at least,

@@ -22,14 +22,15 @@ pub mod pairs;
 pub mod rules;
 pub mod texts;
 
+use crate::format::{automaton, edge, line, machine_header, node, rule_header, state, transition};
 use crate::rng::Rng;
 
 /// The records of a machine sheet. The header is kept apart, so that it can be wrong.
 #[derive(Clone, Debug, PartialEq, Eq)]
 pub struct MachineSheet {
-    pub header: [u16; 3],
-    pub nodes: Vec<[u16; 3]>,
-    pub edges: Vec<[u16; 2]>,
+    pub header: [u16; machine_header::WORDS],
+    pub nodes: Vec<[u16; node::WORDS]>,
+    pub edges: Vec<[u16; edge::WORDS]>,
 }
 
 impl MachineSheet {
@@ -44,11 +45,11 @@ impl MachineSheet {
 /// The records of a rule sheet. The header is kept apart, so that it can be wrong.
 #[derive(Clone, Debug, PartialEq, Eq)]
 pub struct RuleSheet {
-    pub header: [u16; 4],
-    pub automata: Vec<[u16; 2]>,
-    pub states: Vec<[u16; 3]>,
-    pub edges: Vec<[u16; 3]>,
-    pub lines: Vec<[u16; 6]>,
+    pub header: [u16; rule_header::WORDS],
+    pub automata: Vec<[u16; automaton::WORDS]>,
+    pub states: Vec<[u16; state::WORDS]>,
+    pub edges: Vec<[u16; transition::WORDS]>,
+    pub lines: Vec<[u16; line::WORDS]>,
 }
 
 impl RuleSheet {
@@ -63,14 +64,14 @@ impl RuleSheet {
 
     /// The places, from 0, of the states on an automaton's chain. The sheet's links lead upward.
     pub fn chain_of(&self, automaton: usize) -> Vec<usize> {
-        let first = place(self.automata[automaton][1]);
-        std::iter::successors(first, |&state| place(self.states[state][2])).collect()
+        let first = place(self.automata[automaton][automaton::FIRST_STATE]);
+        std::iter::successors(first, |&state| place(self.states[state][state::NEXT])).collect()
     }
 
     /// The places, from 0, of the edges on a state's chain. The sheet's links lead upward.
     pub fn edges_out_of(&self, state: usize) -> Vec<usize> {
-        let first = place(self.states[state][1]);
-        std::iter::successors(first, |&edge| place(self.edges[edge][2])).collect()
+        let first = place(self.states[state][state::FIRST_TRANSITION]);
+        std::iter::successors(first, |&edge| place(self.edges[edge][transition::NEXT])).collect()
     }
 }
 

@@ -4,11 +4,11 @@
 use super::damage::{any_word, MACHINE_FAULTS, RULE_FAULTS};
 use super::machines::{graph, lay_out};
 use super::rules::{sheet_for, Wish};
-use crate::machine::{NODES, SIGNALS};
+use crate::format::{rows_words, AUTOMATA, AUTOMATON_STATES, LINES, NODES, SIGNALS};
 use crate::path::{Asked, Pair};
 use crate::refusal::Refusal;
 use crate::rng::Rng;
-use crate::rules::{Line, AUTOMATA, CHAIN, LINES};
+use crate::rules::Line;
 use crate::truth::Model;
 
 /// How large a pair is to be.
@@ -17,7 +17,7 @@ pub enum Scale {
     Small,
     /// Up to every limit but that on lines.
     Large,
-    /// 128 nodes, 16 states, and as many lines as there can be.
+    /// As many nodes, states of an automaton and lines as there can be.
     Full,
 }
 
@@ -70,7 +70,7 @@ fn large_wish(rng: &mut Rng, signals: usize) -> Wish {
     Wish {
         signals,
         automata: rng.between(1, AUTOMATA),
-        chain: rng.between(4, CHAIN),
+        chain: rng.between(4, AUTOMATON_STATES),
         lines: rng.between(2, 40),
     }
 }
@@ -79,7 +79,7 @@ fn full_wish(rng: &mut Rng, signals: usize) -> Wish {
     Wish {
         signals,
         automata: rng.between(4, AUTOMATA),
-        chain: CHAIN,
+        chain: AUTOMATON_STATES,
         lines: LINES - rng.below(2),
     }
 }
@@ -137,7 +137,7 @@ fn room(rng: &mut Rng, asked: usize) -> usize {
 
 /// A space for the truth rows of so many lines, full of other bits.
 pub fn rows_space(rng: &mut Rng, lines: usize) -> Vec<u64> {
-    let length = room(rng, 2 * lines);
+    let length = room(rng, rows_words(lines));
     let ones = rng.chance(1, 4);
     let words = (0..length).map(|_| if ones { u64::MAX } else { rng.draw() });
     words.collect()

@@ -7,8 +7,11 @@
 use super::chains::{Chains, Numbers};
 use super::{size, RuleSheet};
 use crate::components::strong_components;
+use crate::format::{
+    automaton, line, operation, rule_header, AUTOMATA, AUTOMATON_STATES, LINES, SIGNALS, STATES,
+    TRANSITIONS, VARIABLES,
+};
 use crate::rng::Rng;
-use crate::rules::{AUTOMATA, CHAIN, EDGES, LINES, STATES, VARIABLES};
 
 /// What a sheet is to be like.
 #[derive(Clone, Copy, Debug)]
@@ -28,9 +31,9 @@ impl Wish {
             signals,
             automata: size(rng, 0, AUTOMATA),
             chain: if rng.chance(1, 3) {
-                rng.between(1, CHAIN)
+                rng.between(1, AUTOMATON_STATES)
             } else {
-                size(rng, 1, CHAIN)
+                size(rng, 1, AUTOMATON_STATES)
             },
             lines: if rng.chance(1, 4) {
                 size(rng, 1, LINES)
@@ -43,7 +46,7 @@ impl Wish {
 
 /// A valid sheet of any shape and size.
 pub fn rule_sheet(rng: &mut Rng) -> RuleSheet {
-    let wish = Wish::random(rng, 16);
+    let wish = Wish::random(rng, SIGNALS);
     sheet_for(rng, wish)
 }
 
@@ -54,12 +57,12 @@ pub fn sheet_for(rng: &mut Rng, wish: Wish) -> RuleSheet {
     let variables: Vec<usize> = sheet
         .automata
         .iter()
-        .map(|record| record[0].into())
+        .map(|record| record[automaton::VARIABLES].into())
         .collect();
     sheet.lines = (1..=wish.lines)
         .map(|number| line(rng, number, wish.signals, &variables))
         .collect();
-    sheet.header[3] = wish.lines as u16;
+    sheet.header[rule_header::LINES] = wish.lines as u16;
     sheet
 }
 
@@ -176,7 +179,7 @@ impl Plan {
 
     fn fits(&self) -> bool {
         let edges: usize = self.states.iter().map(|state| state.edges().len()).sum();
-        self.states.len() <= STATES && edges <= EDGES
+        self.states.len() <= STATES && edges <= TRANSITIONS
     }
 
     /// The plan with one automaton more: a new one, one in front of another's chain, which it
@@ -327,7 +330,7 @@ fn lay_out(rng: &mut Rng, plan: &Plan) -> RuleSheet {
 /// nor edges without states.
 fn stray_counts(rng: &mut Rng, plan: &Plan) -> (usize, usize) {
     let edges: usize = plan.states.iter().map(|state| state.edges().len()).sum();
-    let (state_room, edge_room) = (STATES - plan.states.len(), EDGES - edges);
+    let (state_room, edge_room) = (STATES - plan.states.len(), TRANSITIONS - edges);
     let (states, edges) = match rng.below(24) {
         0 => (rng.between(1, 4), rng.between(1, 4)),
         1 if !plan.states.is_empty() => (0, rng.between(1, 4)),
@@ -376,18 +379,25 @@ fn edge_chains(
 }
 
 /// A line that question 15 accepts at the given place, over automata with the given variables.
-pub fn line(rng: &mut Rng, number: usize, signals: usize, variables: &[usize]) -> [u16; 6] {
-    let mut record = [0; 6];
-    record[0] = operation(rng, number, variables);
+pub fn line(
+    rng: &mut Rng,
+    number: usize,
+    signals: usize,
+    variables: &[usize],
+) -> [u16; line::WORDS] {
+    let mut record = [0; line::WORDS];
+    record[line::OPERATION] = operation(rng, number, variables);
     let above = |rng: &mut Rng| line_above(rng, number);
-    match record[0] {
-        0 => record[1] = rng.between(1, signals) as u16,
-        1 => record[1] = above(rng),
-        2 => record[1..3].copy_from_slice(&[above(rng), above(rng)]),
+    match record[line::OPERATION] {
+        operation::SIGNAL => record[line::SIGNAL] = rng.between(1, signals) as u16,
+        operation::NOT => record[line::ONE] = above(rng),
+        operation::OR => {
+            record[line::ONE..=line::OTHER].copy_from_slice(&[above(rng), above(rng)]);
+        }
         _ => {
             let automaton = fitting_automaton(rng, number, variables);
-            record[1] = automaton as u16 + 1;
-            for word in &mut record[2..2 + variables[automaton]] {
+            record[line::AUTOMATON] = automaton as u16 + 1;
+            for word in &mut record[line::ARGUMENTS..][..variables[automaton]] {
                 *word = above(rng);
             }
         }
@@ -411,13 +421,13 @@ fn operation(rng: &mut Rng, number: usize, variables: &[usize]) -> u16 {
     let without_arguments = variables.contains(&0);
     let path_lines = !variables.is_empty() && (number > 1 || without_arguments);
     match rng.below(8) {
-        0..=5 if number <= 3 => 0,
-        0 | 1 if number <= 8 || rng.chance(1, 4) => 0,
-        2 if number > 1 => 1,
-        3 if number > 1 => 2,
-        _ if path_lines => 3 + rng.below(2) as u16,
-        _ if number > 1 => 1 + rng.below(2) as u16,
-        _ => 0,
+        0..=5 if number <= 3 => operation::SIGNAL,
+        0 | 1 if number <= 8 || rng.chance(1, 4) => operation::SIGNAL,
+        2 if number > 1 => operation::NOT,
+        3 if number > 1 => operation::OR,
+        _ if path_lines => *rng.pick(&[operation::SOME_PATH, operation::SOME_PATH_NOT]),
+        _ if number > 1 => *rng.pick(&[operation::NOT, operation::OR]),
+        _ => operation::SIGNAL,
     }
 }
 
@@ -437,7 +447,7 @@ mod tests {
     use crate::rules::{refusal, Rules};
 
     fn note(coverage: &mut Coverage, sheet: &RuleSheet, rules: &Rules) {
-        let limits = [AUTOMATA, STATES, EDGES, LINES];
+        let limits = [AUTOMATA, STATES, TRANSITIONS, LINES];
         for (index, limit) in limits.iter().enumerate() {
             if usize::from(sheet.header[index]) == *limit {
                 coverage.note(&format!("header word {index} at its limit"));
@@ -463,13 +473,13 @@ mod tests {
             let rules = Rules::read(&words).expect("an accepted sheet");
             note(&mut coverage, &sheet, &rules);
         }
-        for index in 0..4 {
+        for index in 0..rule_header::WORDS {
             coverage.require(&format!("header word {index} at its limit"), 10);
         }
         for variables in 0..=VARIABLES {
             coverage.require(&format!("v = {variables}"), 500);
         }
-        for states in 1..=CHAIN {
+        for states in 1..=AUTOMATON_STATES {
             coverage.require(&format!("{states} states"), 50);
         }
         coverage.require("both kinds of states", 1_000);
@@ -481,17 +491,17 @@ mod tests {
         for case in 0..100 {
             let mut rng = Rng::for_case(13, case);
             let wish = Wish {
-                signals: 16,
+                signals: SIGNALS,
                 automata: 1,
-                chain: CHAIN + 1,
+                chain: AUTOMATON_STATES + 1,
                 lines: 3,
             };
             let sheet = sheet_for(&mut rng, wish);
             let states = sheet.chain_of(0).len();
-            let expected = (states > CHAIN).then_some(12);
+            let expected = (states > AUTOMATON_STATES).then_some(12);
             assert_eq!(refusal(&sheet.words()), expected, "case {case}");
             coverage.note(&format!("{states} states"));
         }
-        coverage.require("17 states", 30);
+        coverage.require(&format!("{} states", AUTOMATON_STATES + 1), 30);
     }
 }

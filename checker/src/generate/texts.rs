@@ -1,8 +1,8 @@
 //! Texts of decimal words, right and wrong: every blank, comments with anything in them, leading
 //! zeros, numbers around the largest, stray bytes, and counts of words around the most.
 
+use crate::format::SHEETS_WORDS;
 use crate::rng::Rng;
-use crate::text::WORDS;
 
 /// A text of any kind.
 pub fn any(rng: &mut Rng) -> Vec<u8> {
@@ -71,7 +71,7 @@ fn noise(rng: &mut Rng) -> Vec<u8> {
 
 /// About as many words as there is room for.
 fn many(rng: &mut Rng) -> Vec<u8> {
-    let count = rng.between(WORDS - 1, WORDS + 1);
+    let count = rng.between(SHEETS_WORDS - 1, SHEETS_WORDS + 1);
     let mut text = Vec::new();
     for _ in 0..count {
         text.extend(rng.below(100).to_string().bytes());
@@ -91,9 +91,9 @@ mod tests {
         let mut coverage = Coverage::new();
         for case in 0..4_000 {
             let text = any(&mut Rng::for_case(91, case));
-            coverage.note(&match reading(&text, WORDS) {
+            coverage.note(&match reading(&text, SHEETS_WORDS) {
                 Ok(words) if words.is_empty() => "no words".to_string(),
-                Ok(words) if words.len() == WORDS => "as many as can be".to_string(),
+                Ok(words) if words.len() == SHEETS_WORDS => "as many as can be".to_string(),
                 Ok(_) => "words".to_string(),
                 Err(fault) => format!("{:?}", fault.kind),
             });

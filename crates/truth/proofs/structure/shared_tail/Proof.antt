@@ -31,10 +31,10 @@ returns-2 : tie.Need-returns-2
 returns-2 c =
     let at-start : tie.Start = search in
     record {
-  where-from = inr (at-start .pre);
-  there = omega (arith, c .before .before .before .edges .ensures, c .before .before .if1 .left);
-  leads = c .chain-row .ensures;
-}
+      where-from = inr (at-start .pre);
+      there = omega (arith, c .before .before .before .edges .ensures, c .before .before .if1 .left);
+      leads = c .chain-row .ensures;
+    }
 
 pub shared-tail-spec : {M : Type 1} → statement M
 shared-tail-spec =
