@@ -84,3 +84,13 @@ module _ (R : List ℕ) (j : ℕ) where
   pub most-decoded : (a : ℕ) (l : Line) → decoded R j ≡ Formed l → mostOf a l ≡ signalMost a (line lent R j)
   unfolding decoded
   most-decoded a l e = most-by a l (lineFits lent R j (lineWord lent R j 0)) (line lent R j) e
+
+  -- a line of another operation has no signal number
+  pub other-most : (a op : ℕ) → (op ≡ 0 → ⊥) → signalMost a (lineOf lent R j op) ≡ true
+  unfolding lineOf signalMost
+  other-most a zero n = absurd (n refl)
+  other-most a (suc zero) n = refl
+  other-most a (suc (suc zero)) n = refl
+  other-most a (suc (suc (suc zero))) n = refl
+  other-most a (suc (suc (suc (suc zero)))) n = refl
+  other-most a (suc (suc (suc (suc (suc m))))) n = refl

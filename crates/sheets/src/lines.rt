@@ -211,7 +211,7 @@ fn signal_most(line: Line, a: u16) -> bool
     }
 }
 
-// Question 16, of a sheet that question 15 accepts: the signal numbers are at most a.
+// Question 16, of a sheet that question 15 accepts: the signal numbers are at most a. Only signals are taken apart.
 pub fn over_signals(r: &[u16], a: u16) -> bool
     requires { ⌜ T (Rules.q15 Rules.lent (now r)) ⌝ }
     ensures { λ b. ⌜ b ≡ Rules.overSignals Rules.lent a (now (r .entry)) ⌝ }
@@ -220,12 +220,14 @@ pub fn over_signals(r: &[u16], a: u16) -> bool
     let mut j: u16 = 0;
     while j < l {
         j += 1;
-        let decoded = decode(r, j);
-        let Decoded::Formed(line) = decoded else {
-            return false;
-        };
-        if !signal_most(line, a) {
-            return false;
+        if operation(r, j) == SIGNAL {
+            let decoded = decode(r, j);
+            let Decoded::Formed(line) = decoded else {
+                return false;
+            };
+            if !signal_most(line, a) {
+                return false;
+            }
         }
     }
     true

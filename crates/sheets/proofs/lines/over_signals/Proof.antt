@@ -9,7 +9,7 @@ use lib.Dec.{T}
 use borrow.Author.Tests.{not-true, not-false}
 use Rattle.sheets.specs.Rules.{lent, lines, line, signalMost, q15, overSignals}
 use Rattle.sheets.proofs.Search.{each-at}
-use Rattle.sheets.proofs.DecodedLines.{malformed-fails, most-decoded}
+use Rattle.sheets.proofs.DecodedLines.{malformed-fails, most-decoded, other-most}
 use Rattle.sheets.proofs.EachLoops.{Tested, each-starts, each-goes, each-stops, each-ends}
 use Rattle.sheets.proofs.lines.over_signals.Statement.{statement}
 use Rattle.sheets.proofs.lines.over_signals.Tie as tie
@@ -32,6 +32,9 @@ loop-holds c = each-starts _ _
 add-j : tie.Need-add-j Inv-loop μ-loop
 add-j c = search needs
 
+operation-requires : tie.Need-operation-requires Inv-loop μ-loop
+operation-requires c κs = search needs
+
 decode-requires : tie.Need-decode-requires Inv-loop μ-loop
 decode-requires c κs = search needs
 
@@ -44,7 +47,7 @@ enum-told c = search needs
 returns : tie.Need-returns Inv-loop μ-loop
 unfolding q15
 returns c =
-    let turn = c .before .before .before in
+    let turn : tie.In-loop Inv-loop μ-loop = search in
     let read = turn .before .before in
     let start = read .before .before in
     let r = start .args .r .now in
@@ -61,7 +64,7 @@ returns-2 c =
     let turn : tie.In-loop Inv-loop μ-loop = search in let read = turn .before .before in
     let args = read .before .before .args in
     let most = most-decoded (args .r .now) _ (args .a) _ (sym (told .before .before .before .decode .ensures) ∙ told .before .decoded .given .1) in
-    sym (each-stops (test (args .r .now) (args .a)) (read .lines .ensures) (turn .loop-test .taken) (sym most ∙ sym (c .before .signal-most .ensures) ∙ not-true _ (c .if1 .taken)))
+    sym (each-stops (test (args .r .now) (args .a)) (read .lines .ensures) (turn .loop-test .taken) (sym most ∙ sym (c .before .signal-most .ensures) ∙ not-true _ (c .if2 .taken)))
 
 loop-less : tie.Need-loop-less Inv-loop μ-loop
 loop-less c = search needs
@@ -72,7 +75,18 @@ loop-again c =
     let turn : tie.In-loop Inv-loop μ-loop = search in let read = turn .before .before in
     let args = read .before .before .args in
     let most = most-decoded (args .r .now) _ (args .a) _ (sym (told .before .before .before .decode .ensures) ∙ told .before .decoded .given .1) in
-    each-goes (test (args .r .now) (args .a)) (turn .loop-test .taken) (turn .before .loop .inv) (sym most ∙ sym (c .before .signal-most .ensures) ∙ not-false _ (c .if1 .left))
+    each-goes (test (args .r .now) (args .a)) (turn .loop-test .taken) (turn .before .loop .inv) (sym most ∙ sym (c .before .signal-most .ensures) ∙ not-false _ (c .if2 .left))
+
+loop-less-2 : tie.Need-loop-less-2 Inv-loop μ-loop
+loop-less-2 c = search needs
+
+loop-again-2 : tie.Need-loop-again-2 Inv-loop μ-loop
+unfolding line
+loop-again-2 c =
+    let turn = c .before .before in
+    let args = turn .before .before .before .before .args in
+    let other = other-most (args .r .now) _ (args .a) _ (λ e. c .if1 .left (c .before .operation .ensures ∙ e)) in
+    each-goes (test (args .r .now) (args .a)) (turn .loop-test .taken) (turn .before .loop .inv) other
 
 returns-3 : tie.Need-returns-3 Inv-loop μ-loop
 unfolding overSignals
@@ -87,6 +101,7 @@ over-signals-spec =
     lines-requires
     loop-holds
     add-j
+    operation-requires
     decode-requires
     enum-known-decoded
     enum-told
@@ -95,4 +110,6 @@ over-signals-spec =
     returns-2
     loop-less
     loop-again
+    loop-less-2
+    loop-again-2
     returns-3)
