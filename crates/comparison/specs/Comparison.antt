@@ -7,6 +7,7 @@ use lib.ListN.{length, take, drop}
 use lib.Dec.{T, leb, eqb}
 use Rattle.truth.specs.Passed.{none, firstNo, Question, ask, nodes, signals, lent, lifted, ruleRefusal, overSignals, lines, nodesMost, nextHead, linesWritten, ruleSpace}
 use Rattle.truth.specs.Truth.{Keeps}
+use Rattle.truth.specs.Sizes.{rowWords}
 use Rattle.truth.specs.Labelling.{labelQuestions}
 
 -- a rule of the logic over a signals, of whatever length and automaton size: its line records have L words
@@ -56,6 +57,6 @@ pub record Written (M₁ M₂ R before after : List ℕ) : Type 0 where
   pub accepted : ruleRefusal lent R ≡ 0
   pub over₁ : T (overSignals lent (signals M₁) R)
   pub over₂ : T (overSignals lent (signals M₂) R)
-  pub labels₁ : (space : ℕ) → 2 * lines R ≤ space → firstNo (labelQuestions M₁ R space) ≡ none
-  pub labels₂ : (space : ℕ) → 2 * lines R ≤ space → firstNo (labelQuestions M₂ R space) ≡ none
+  pub labels₁ : (space : ℕ) → rowWords * lines R ≤ space → firstNo (labelQuestions M₁ R space) ≡ none
+  pub labels₂ : (space : ℕ) → rowWords * lines R ≤ space → firstNo (labelQuestions M₂ R space) ≡ none
   pub apart : ToldApart M₁ M₂ R

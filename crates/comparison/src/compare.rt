@@ -86,7 +86,7 @@ fn last_refusal(m1: &[u16], m2: &[u16], space: usize) -> u16
     if n > sizes::NODES {
         return 21;
     }
-    if space < sizes::NEXT_HEAD + sizes::LINE_WORDS * (a as usize + sizes::LINES_A_NODE * n) {
+    if space < header::rule_space(a, n as u16) {
         return 22;
     }
     0

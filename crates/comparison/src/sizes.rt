@@ -2,14 +2,12 @@
 use truth::header;
 use truth::sizes;
 
-// Of the format: the most nodes, the words of a line record, the words of a written rule before its lines, and its lines for each node.
+// Of the format: the most nodes, the words of a line record, and the words of a written rule before its lines.
 pub const NODES: usize = header::NODES;
 
 pub const LINE_WORDS: usize = header::LINE_WORDS;
 
 pub const NEXT_HEAD: usize = header::NEXT_HEAD;
-
-pub const LINES_A_NODE: usize = header::LINES_A_NODE;
 
 // The space in which lines are written, in words.
 pub const WRITTEN_SPACE: usize = 5632;

@@ -170,6 +170,13 @@ pub const NEXT_HEAD: usize = RULE_HEADER
 
 pub const LINES_A_NODE: usize = 7;
 
-// The space for the longest written rule.
+// The space for a rule written of machines with a signals, and n nodes together.
+pub fn rule_space(a: u16, n: u16) -> usize
+    ensures { λ r. ⌜ r ≡ Format.ruleSpace a n ⌝ }
+{
+    NEXT_HEAD + (LINE_WORDS as usize) * ((a as usize) + LINES_A_NODE * (n as usize))
+}
+
+// The space for the longest.
 pub const RULE_SPACE_LONGEST: usize = NEXT_HEAD
     + (LINE_WORDS as usize) * ((SIGNALS_MOST as usize) + LINES_A_NODE * NODES);

@@ -1,18 +1,17 @@
 // What the crate above asks of a machine sheet: the question that refuses it, its nodes, its signals; and what it takes of the format.
 ghost use mathlib.Core.Path.{_≡_};
+ghost use Rattle.sheets.specs.Format as Format;
 ghost use Rattle.sheets.specs.Machine as Machine;
 use sheets::format;
 use sheets::lines;
 use sheets::machine;
 
-// Passed on: the most nodes, the words of a line record, the words of a written rule before its lines, and its lines for each node.
+// Passed on: the most nodes, the words of a line record, and the words of a written rule before its lines.
 pub const NODES: usize = format::NODES;
 
 pub const LINE_WORDS: usize = format::LINE_WORDS as usize;
 
 pub const NEXT_HEAD: usize = format::NEXT_HEAD;
-
-pub const LINES_A_NODE: usize = format::LINES_A_NODE;
 
 // The operations of a written rule's lines.
 pub const SIGNAL: u16 = lines::SIGNAL;
@@ -40,4 +39,11 @@ pub fn signals(m: &[u16]) -> u16
     ensures { λ a. ⌜ a ≡ Machine.signals (now (m .entry)) ⌝ }
 {
     machine::signals(m)
+}
+
+// The space for a rule written of machines with a signals, and n nodes together.
+pub fn rule_space(a: u16, n: u16) -> usize
+    ensures { λ r. ⌜ r ≡ Format.ruleSpace a n ⌝ }
+{
+    format::rule_space(a, n)
 }

@@ -49,24 +49,15 @@ returns-2 c =
     let two = counted .nodes2 .ensures in
     by-nodes (a .m1 .now) (a .m2 .now) (a .space) (same agreed) (omega arith)
 
-cast-if3 : tie.Need-cast-if3
-cast-if3 c = search needs
+cast-rule-space : tie.Need-cast-rule-space
+cast-rule-space c = search needs
 
-mul-if3 : tie.Need-mul-if3
-mul-if3 c = search needs
-
-add-if3 : tie.Need-add-if3
-add-if3 c = search needs
-
-mul-if3-2 : tie.Need-mul-if3-2
-mul-if3-2 c = search needs
-
-add-if3-2 : tie.Need-add-if3-2
-add-if3-2 c = search needs
+rule-space-requires : tie.Need-rule-space-requires
+rule-space-requires c κs = search needs
 
 returns-3 : tie.Need-returns-3
 returns-3 c =
-    let counted = c .before .before in
+    let counted = c .before .before .before in
     let agreed = counted .before .before in
     let a = start agreed .args in
     let one = counted .before .nodes .ensures in
@@ -75,7 +66,7 @@ returns-3 c =
 
 returns-4 : tie.Need-returns-4
 returns-4 c =
-    let counted = c .before .before in
+    let counted = c .before .before .before in
     let agreed = counted .before .before in
     let a = start agreed .args in
     let one = counted .before .nodes .ensures in
@@ -95,10 +86,7 @@ last-refusal-spec =
     cast-n-2
     add-n
     returns-2
-    cast-if3
-    mul-if3
-    add-if3
-    mul-if3-2
-    add-if3-2
+    cast-rule-space
+    rule-space-requires
     returns-3
     returns-4)

@@ -70,10 +70,16 @@ store-requires-2 c κs = let at-start : tie.Start = search in at-start .pre .0
 put-time-requires : tie.Need-put-time-requires
 put-time-requires c κs = let at-start : tie.Start = search in (at-start .pre .0, omega (arith, c .before .if2 .left))
 
+abbrev differed : tie.After-store2 → tie.After-difference
+differed c = search
+
+abbrev stored : tie.After-store2 → tie.After-store
+stored c = search
+
 -- what is added, and what the times are then
-added : (c : tie.After-store2) (times : List ℕ) → TimePut (rowHas (c .before .before .before .before .before .before .before .before .before .before .difference .result)) (c .before .before .before .before .before .before .before .before .before .before .before .before .before .before .before .before .args .p) (c .before .before .before .before .before .before .before .before .before .before .before .before .before .before .before .before .args .time) (c .before .before .before .before .before .before .before .before .before .before .before .before .before .before .before .before .args .times .now) times
-    → Spread (λ q s. eqb q (c .before .before .before .before .before .before .before .before .before .before .before .before .before .before .before .before .args .p) && enters (c .before .before .before .before .before .before .before .before .before .before .before .before .before .before .before .before .args .allow .now) (c .before .before .before .before .before .before .before .before .before .before .before .before .before .before .before .before .args .p2) (rowHas (c .before .before .before .before .before .before .before .before .before .before .before .before .before .before .before .before .args .prev)) (c .before .before .before .before .before .before .before .before .before .before .before .before .before .before .before .before .args .p) s) (c .before .before .before .before .before .before .before .before .before .before .before .before .before .before .before .before .args .time)
-    (c .before .before .before .before .before .before .before .before .before .before .before .before .before .before .before .before .args .ys .now) (c .before .before .before .before .before .before .before .before .before .before .before .before .before .before .before .before .args .new .now) (c .before .before .before .before .before .before .before .before .before .before .before .before .before .before .before .before .args .times .now) (c .before .before .before .before .before .store .last .0) (c .store2 .last .0) times
+added : (c : tie.After-store2) (times : List ℕ) → let d = differed c in let a = start d .args in TimePut (rowHas (d .difference .result)) (a .p) (a .time) (a .times .now) times
+    → Spread (λ q s. eqb q (a .p) && enters (a .allow .now) (a .p2) (rowHas (a .prev)) (a .p) s) (a .time)
+    (a .ys .now) (a .new .now) (a .times .now) (stored c .store .last .0) (c .store2 .last .0) times
 added c times put =
     let at-start : tie.Start = search in let after-load : tie.After-load = search in let after-store : tie.After-store = search in
     let d : tie.After-difference = search in let a = at-start .args in

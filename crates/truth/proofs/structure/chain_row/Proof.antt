@@ -12,8 +12,11 @@ use Rattle.truth.proofs.structure.TargetRows.{tail-used, chain-until}
 use Rattle.truth.proofs.structure.chain_row.Statement.{statement}
 use Rattle.truth.proofs.structure.chain_row.Tie as tie
 
+abbrev begun : tie.After-targets-along → tie.Start
+begun c = search
+
 -- what the walk gathers
-gathered : (c : tie.After-targets-along) (t : ℕ) → let start = c .before .before .before .before .before .before .before .before in let r = c .targets-along .result in let whole = within 1 membersMost t && chainLeads (start .args .m .now) (start .args .x) t in
+gathered : (c : tie.After-targets-along) (t : ℕ) → let start = begun c in let r = c .targets-along .result in let whole = within 1 membersMost t && chainLeads (start .args .m .now) (start .args .x) t in
     (r .link ≡ r .stop → (rowHas (r .row) t || rowHas (c .before .before .tail-for .result .row) t) ≡ whole) × (r .link ≢ r .stop → rowHas (r .row) t ≡ whole)
 gathered c =
     let after-edges-from : tie.After-edges-from = search in let start : tie.Start = search in let a = start .args in
