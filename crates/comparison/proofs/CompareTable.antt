@@ -4,10 +4,11 @@ use mathlib.Core.Path.{_≡_, refl, sym, _∙_}
 use Prim.Native.Nat.{ℕ, _+_, _≤_, _<_}
 use native.Mathlib.Omega.{arith}
 use mathlib.Core.List.{List, _++_}
+use mathlib.Core.Bool.{true}
 use borrow.Author.Tests.{le-leb, lt-leb, eq-eqb, ne-eqb}
-use lib.Dec.{leb→le, eqb→eq}
+use lib.Dec.{eqb, leb→le, eqb→eq}
 use Rattle.truth.specs.Passed.{Refusal, none as noRefusal, Question, firstNo, nodes, signals, machineQuestions, machineRefusal, nodesMost, ruleSpace}
-use Rattle.truth.proofs.Passed.{all-yes, found, none, yes, no, none-found, PutTo, no-sheet, machine-refused, machine-passed, machine-none}
+use Rattle.truth.proofs.Passed.{all-yes, asked-none, asked-yes, asked-no, none-found, PutTo, no-sheet, machine-refused, machine-passed, machine-none}
 use Rattle.comparison.specs.Comparison.{compareQuestions}
 use Rattle.comparison.specs.CompareAnswers.{comparisonQuestions}
 
@@ -47,20 +48,23 @@ module _ (M₁ M₂ : List ℕ) (space : ℕ) where
 
   pub by-signals : (signals M₁ ≡ signals M₂ → ⊥) → 20 ≡ firstNo lastQuestions .number
   unfolding compareQuestions
-  by-signals n = sym (found lastQuestions (no (ne-eqb (signals M₁) (signals M₂) n)))
+  by-signals n = search (asked-no, sym (ne-eqb (signals M₁) (signals M₂) n))
 
   module _ (same : signals M₁ ≡ signals M₂) where
+    agree : true ≡ eqb (signals M₁) (signals M₂)
+    agree = sym (eq-eqb (signals M₁) (signals M₂) same)
+
     pub by-nodes : nodesMost < nodes M₁ + nodes M₂ → 21 ≡ firstNo lastQuestions .number
     unfolding compareQuestions
-    by-nodes h = sym (found lastQuestions (yes (eq-eqb (signals M₁) (signals M₂) same) (no (lt-leb (nodes M₁ + nodes M₂) nodesMost h))))
+    by-nodes h = search (asked-yes, asked-no, agree, sym (lt-leb (nodes M₁ + nodes M₂) nodesMost h))
 
     pub by-space : nodes M₁ + nodes M₂ ≤ nodesMost → space < room → 22 ≡ firstNo lastQuestions .number
     unfolding compareQuestions
-    by-space h l = sym (found lastQuestions (yes (eq-eqb (signals M₁) (signals M₂) same) (yes (le-leb (nodes M₁ + nodes M₂) nodesMost h) (no (lt-leb room space l)))))
+    by-space h l = search (asked-yes, asked-no, agree, sym (le-leb (nodes M₁ + nodes M₂) nodesMost h), sym (lt-leb room space l))
 
     pub by-none : nodes M₁ + nodes M₂ ≤ nodesMost → room ≤ space → 0 ≡ firstNo lastQuestions .number
     unfolding compareQuestions
-    by-none h l = sym (found lastQuestions (yes (eq-eqb (signals M₁) (signals M₂) same) (yes (le-leb (nodes M₁ + nodes M₂) nodesMost h) (yes (le-leb room space l) none))))
+    by-none h l = search (asked-none, asked-yes, agree, sym (le-leb (nodes M₁ + nodes M₂) nodesMost h), sym (le-leb room space l))
 
   -- ---- what it says where it refuses nothing
 

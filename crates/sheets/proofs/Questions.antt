@@ -1,6 +1,6 @@
 -- Tables of questions: what a table that refuses nothing says, the first "no" of one table after another, and what code that asks in order
 -- finds. Then a sheet that no question refuses, question by question: of the questions headed Machine and of those headed Rules.
-use mathlib.Core.Path.{_≡_, refl, sym, ap, subst, _∙_}
+use mathlib.Core.Path.{_≡_, refl, sym, ap, _∙_}
 use Prim.Native.Nat.{ℕ, zero, suc, _≤_}
 use native.Mathlib.Omega.{arith}
 use mathlib.Core.List.{List, [], _∷_, _++_}
@@ -117,44 +117,31 @@ same-rest [] rs rs′ h = h refl
 same-rest (ask k i true ∷ qs) rs rs′ h = same-rest qs rs rs′ h
 same-rest (ask k i false ∷ qs) rs rs′ h = refl
 
--- ---- what the first "no" finds, as code asks: question by question, or a part of the table at once
+-- ---- the number of the first "no", as code asks: the last questions decide where those before them say yes
 
-pub data Finds : List Question → ℕ → Type 0 where
-  none : Finds [] 0
-  yes : {k i n : ℕ} {b : Bool} {qs : List Question} → b ≡ true → Finds qs n → Finds (ask k i b ∷ qs) n
-  no : {k i : ℕ} {b : Bool} {qs : List Question} → b ≡ false → Finds (ask k i b ∷ qs) k
-
-pub found : (qs : List Question) {n : ℕ} → Finds qs n → firstNo qs .number ≡ n
+pub asked-none : 0 ≡ firstNo [] .number
 unfolding firstNo noRefusal
-found qs none = refl
-found qs (yes {k = k} {i = i} {qs = rs} e f) = rw (e, firstNo) (found rs f)
-found qs (no {k = k} {i = i} {qs = rs} e) = rw (e, firstNo) refl
+asked-none = refl
 
 -- a question's function answered a: the code went on, or returned the question's number
-pub went-on : {k i n : ℕ} {b : Bool} {qs : List Question} (a : Bool) → a ≡ b → not a ≡ false → Finds qs n → Finds (ask k i b ∷ qs) n
-went-on a e y f = yes (sym e ∙ not-false a y) f
+pub asked-yes : (k i : ℕ) (qs : List Question) {n : ℕ} {a b : Bool} → a ≡ b → not a ≡ false → n ≡ firstNo qs .number → n ≡ firstNo (ask k i b ∷ qs) .number
+unfolding firstNo
+asked-yes k i qs {a = a} e y f = rw (sym e ∙ not-false a y, firstNo) f
 
-pub returned : {k i : ℕ} {b : Bool} {qs : List Question} (a : Bool) → a ≡ b → not a ≡ true → Finds (ask k i b ∷ qs) k
-returned a e n = no (sym e ∙ not-true a n)
+pub asked-no : (i : ℕ) (qs : List Question) {k : ℕ} {a b : Bool} → a ≡ b → not a ≡ true → k ≡ firstNo (ask k i b ∷ qs) .number
+unfolding firstNo
+asked-no i qs {a = a} e n = rw (sym e ∙ not-true a n, firstNo) refl
 
-finds-first : (qs : List Question) → Finds qs (firstNo qs .number)
-unfolding firstNo noRefusal
-finds-first [] = none
-finds-first (ask k i true ∷ qs) = yes refl (finds-first qs)
-finds-first (ask k i false ∷ qs) = no refl
+-- a table's function returned a: the code went on, or returned a too
+module _ (qs rs : List Question) {a : ℕ} (e : a ≡ firstNo qs .number) where
+  pub part-yes : Numbered qs → a ≡ 0 → {n : ℕ} → n ≡ firstNo rs .number → n ≡ firstNo (qs ++ rs) .number
+  part-yes h z f = f ∙ sym (ap (λ (r : Refusal). r .number) (later-table qs rs h (sym e ∙ z)))
 
--- a table's function returned a
-pub finds : (qs : List Question) (a : ℕ) → a ≡ firstNo qs .number → Finds qs a
-finds qs a e = subst (Finds qs) (sym e) (finds-first qs)
+  pub part-no : (a ≡ 0 → ⊥) → a ≡ firstNo (qs ++ rs) .number
+  part-no n = e ∙ sym (ap (λ (r : Refusal). r .number) (first-table qs rs (λ z. n (e ∙ z))))
 
--- it is a part of a table: the code returned a, or went on
-module _ (qs rs : List Question) (a : ℕ) (e : a ≡ firstNo qs .number) where
-  pub part-returned : (a ≡ 0 → ⊥) → Finds (qs ++ rs) a
-  part-returned n = finds (qs ++ rs) a (e ∙ sym (ap (λ (r : Refusal). r .number) (first-table qs rs (λ z. n (e ∙ z)))))
-
-  pub part-went-on : Numbered qs → a ≡ 0 → {n : ℕ} → Finds rs n → Finds (qs ++ rs) n
-  part-went-on h z {n = n} f =
-      finds (qs ++ rs) n (sym (ap (λ (r : Refusal). r .number) (later-table qs rs h (sym e ∙ z)) ∙ found rs f))
+-- what closes a return of code that asks
+pub ruleset asked = (asked-none, asked-yes, asked-no, part-yes, part-no)
 
 -- ---- a machine sheet
 

@@ -11,7 +11,7 @@ use Rattle.sheets.specs.Machine.{signals, machineQuestions, machineRefus
 use Rattle.sheets.specs.Rules.{Form, lent, recordQuestions, automataQuestions, ruleQuestions, ruleRefusal, overSignals}
 use Rattle.sheets.specs.Sheets.{sheetQuestions, sheetOf}
 use Rattle.sheets.proofs.Tests.{passed}
-use Rattle.sheets.proofs.Questions.{AllYes, none-refuses, all-yes, Every, every-both, every-map, first-has, Numbered, none-found, PutTo, nothing, also, same-number, first-table, later-table, none-of-both, found, part-went-on, none, yes}
+use Rattle.sheets.proofs.Questions.{AllYes, none-refuses, all-yes, Every, every-both, every-map, first-has, Numbered, none-found, PutTo, nothing, also, same-number, first-table, later-table, none-of-both, asked-none, asked-yes, part-yes}
 
 -- ---- a machine sheet's questions, put to sheet i, with the questions rs after them
 
@@ -89,10 +89,10 @@ module _ (M R : List ℕ) where
   pub both-pass : BothAccepted M R → firstNo (sheetQuestions M R) .number ≡ 0
   unfolding sheetQuestions machineRefusal ruleRefusal
   both-pass b =
-      found (sheetQuestions M R)
-      (part-went-on (machineQuestions 1 M) (ruleQuestions lent R ++ signalQuestion M R) 0 (sym (b .machine)) (machine-numbered 1 M) refl
-      (part-went-on (ruleQuestions lent R) (signalQuestion M R) 0 (sym (b .rules)) (rules-numbered lent R) refl
-      (yes (passed (overSignals lent (signals M) R) (b .over)) none)))
+      sym
+      (part-yes (machineQuestions 1 M) (ruleQuestions lent R ++ signalQuestion M R) (sym (b .machine)) (machine-numbered 1 M) refl
+      (part-yes (ruleQuestions lent R) (signalQuestion M R) (sym (b .rules)) (rules-numbered lent R) refl
+      (asked-yes 16 0 [] (sym (passed (overSignals lent (signals M) R) (b .over))) refl asked-none)))
 
   -- ---- a call over both: questions 1 to 16, then its own
 

@@ -87,24 +87,36 @@ module _ (F : NodeForm) (M : List ℕ) where
   q2 = eqb (length M) (formLength F (nodes M) (edges M))
 
   -- "Are the signal bits from bit a up zero, and is each flag 0 or 1?"
+  abbrev pub nodeInRange : ℕ → Bool
+  nodeInRange s = ltb (nodeWord s (F .signals)) (2 ^ signals M) && leb (nodeWord s (F .flag)) 1
+
   unfoldable pub q3 : Bool
-  unfolding each nodes nodeWord signals startFlag
-  q3 = each (nodes M) (λ s. ltb (nodeWord s (F .signals)) (2 ^ signals M) && leb (startFlag s) 1)
+  unfolding each nodes nodeWord signals
+  q3 = each (nodes M) nodeInRange
 
   -- "Is each first edge in 1 to e?"
+  abbrev pub firstInRange : ℕ → Bool
+  firstInRange s = within 1 (edges M) (nodeWord s (F .first))
+
   unfoldable pub q4 : Bool
-  unfolding each nodes within edges firstEdge
-  q4 = each (nodes M) (λ s. within 1 (edges M) (firstEdge s))
+  unfolding each nodes within edges nodeWord
+  q4 = each (nodes M) firstInRange
 
   -- "Is each edge's target in 1 to n, and its next zero, or above its own number and at most e?"
+  abbrev pub edgeInRange : ℕ → Bool
+  edgeInRange x = within 1 (nodes M) (edgeWord x edgeTargetPlace) && link (edges M) x (edgeWord x edgeNextPlace)
+
   unfoldable pub q5 : Bool
-  unfolding each edges within nodes target link nextEdge
-  q5 = each (edges M) (λ x. within 1 (nodes M) (target x) && link (edges M) x (nextEdge x))
+  unfolding each edges within nodes edgeWord link
+  q5 = each (edges M) edgeInRange
 
   -- "Is there a start node?"
+  abbrev pub noStart : ℕ → Bool
+  noStart s = eqb (nodeWord s (F .flag)) 0
+
   unfoldable pub q6 : Bool
-  unfolding each nodes startFlag
-  q6 = not (each (nodes M) (λ s. eqb (startFlag s) 0))
+  unfolding each nodes nodeWord
+  q6 = not (each (nodes M) noStart)
 
   -- the questions headed Machine, put to the machine sheet of number i among the sheets of a call
   unfoldable pub machineQuestions : ℕ → List Question

@@ -192,16 +192,23 @@ unfolding each automata fits variables within states initial
 q9 F R = each (automata R) (λ x. fits (F .variables) (variables R x) && within 1 (states R) (initial R x))
 
 -- "Is each accepting word 0 or 1, first edge in 1 to e, next state zero, or above its own number and at most m?"
+abbrev pub stateInRange : List ℕ → ℕ → Bool
+stateInRange R q =
+    leb (stateWord R q Format.acceptingPlace) 1 && within 1 (transitions R) (stateWord R q Format.firstTransitionPlace)
+    && link (states R) q (stateWord R q Format.nextStatePlace)
+
 unfoldable pub q10 : Form → List ℕ → Bool
 unfolding each states stateWord within transitions link
-q10 F R =
-    each (states R) (λ q. leb (stateWord R q Format.acceptingPlace) 1 && within 1 (transitions R) (stateWord R q Format.firstTransitionPlace)
-    && link (states R) q (stateWord R q Format.nextStatePlace))
+q10 F R = each (states R) (stateInRange R)
 
 -- "The same for edges: target in 1 to m, next zero or above and at most e?"
+abbrev pub transitionInRange : List ℕ → ℕ → Bool
+transitionInRange R y =
+    within 1 (states R) (transitionWord R y Format.transitionTargetPlace) && link (transitions R) y (transitionWord R y Format.nextTransitionPlace)
+
 unfoldable pub q11 : Form → List ℕ → Bool
-unfolding each transitions within states transitionTarget link transitionWord
-q11 F R = each (transitions R) (λ y. within 1 (states R) (transitionTarget R y) && link (transitions R) y (transitionWord R y Format.nextTransitionPlace))
+unfolding each transitions within states link transitionWord
+q11 F R = each (transitions R) (transitionInRange R)
 
 -- of the transitions `ys` out of a state of the automaton with the states `all` and v variables
 unfoldable pub transitionsFit : List ℕ → ℕ → List ℕ → List ℕ → Bool

@@ -1,15 +1,13 @@
 -- `q12` meets its contract. The invariant: each automaton passed fits. The measure is the number of those left.
 use borrow.Author.Needs.{needs}
-use mathlib.Core.Path.{sym, _∙_}
 use Prim.Native.Nat.{_-_}
-use borrow.Author.Tests.{not-true, not-false}
 use Rattle.sheets.specs.Rules.{automata, lent, automatonFits, q12}
-use Rattle.sheets.proofs.EachLoops.{Tested, each-starts, each-goes, each-stops, each-ends}
+use Rattle.sheets.proofs.EachLoops.{Tested, each-starts, test-goes, test-stops, each-ends}
 use Rattle.sheets.proofs.automata.q12.Statement.{statement}
 use Rattle.sheets.proofs.automata.q12.Tie as tie
 
 abbrev Inv-loop : tie.InvT-loop
-Inv-loop r a x₀ x = Tested (automatonFits lent r) a x
+Inv-loop r a x₀ x = Tested (automatonFits lent r) (automata r) a x
 
 abbrev μ-loop : tie.MeasureT-loop
 μ-loop r a x₀ x = a - x
@@ -18,7 +16,7 @@ automata-requires : tie.Need-automata-requires Inv-loop μ-loop
 automata-requires c κs = search needs
 
 loop-holds : tie.Need-loop-holds Inv-loop μ-loop
-loop-holds c = each-starts _ _
+loop-holds c = search each-starts
 
 add-x : tie.Need-add-x Inv-loop μ-loop
 add-x c = search needs
@@ -28,24 +26,17 @@ automaton-fits-requires c κs = search needs
 
 returns : tie.Need-returns Inv-loop μ-loop
 unfolding q12
-returns c =
-    let turn = c .before .before in
-    let read = turn .before .before in
-    let no = sym (c .before .automaton-fits .ensures) ∙ not-true _ (c .if1 .taken) in
-    sym (each-stops (automatonFits lent (read .before .before .args .r .now)) (read .automata .ensures) (turn .loop-test .taken) no)
+returns c = search test-stops
 
 loop-less : tie.Need-loop-less Inv-loop μ-loop
 loop-less c = search needs
 
 loop-again : tie.Need-loop-again Inv-loop μ-loop
-loop-again c =
-    let at-start : tie.Start Inv-loop μ-loop = search in let turn = c .before .before in
-    let yes = sym (c .before .automaton-fits .ensures) ∙ not-false _ (c .if1 .left) in
-    each-goes (automatonFits lent (at-start .args .r .now)) (turn .loop-test .taken) (turn .before .loop .inv) yes
+loop-again c = search test-goes
 
 returns-2 : tie.Need-returns-2 Inv-loop μ-loop
 unfolding q12
-returns-2 c = sym (each-ends _ (c .before .before .automata .ensures) (c .loop-test .left) (c .before .loop .inv))
+returns-2 c = search each-ends
 
 pub q12-spec : {M : Type 1} → statement M
 q12-spec =

@@ -1,10 +1,9 @@
 -- `total` meets its contract. The invariant: under each valuation passed exactly one transition is taken. The measure is the number of those left.
-use mathlib.Core.Path.{sym, _∙_}
-use Prim.Native.Nat.{_-_}
+use mathlib.Core.Path.{_∙_}
+use Prim.Native.Nat.{_-_, _^_}
 use native.Mathlib.Omega.{arith}
-use borrow.Author.Tests.{not-true, not-false}
 use Rattle.sheets.specs.Rules.{total, transitionsOf}
-use Rattle.sheets.proofs.EachLoops.{Tested, each-starts, each-goes, each-stops, each-ends}
+use Rattle.sheets.proofs.EachLoops.{Tested, each-starts, test-goes, test-stops, each-ends}
 use Rattle.sheets.proofs.BitLaws.{one-shifted}
 use Rattle.sheets.proofs.AutomatonLoops.{served, served-once}
 use borrow.Author.Needs.{needs}
@@ -12,7 +11,7 @@ use Rattle.sheets.proofs.automata.total.Statement.{statement}
 use Rattle.sheets.proofs.automata.total.Tie as tie
 
 abbrev Inv-loop : tie.InvT-loop
-Inv-loop r v q out most w₀ w = Tested (served r (transitionsOf r q)) most w
+Inv-loop r v q out most w₀ w = Tested (served r (transitionsOf r q)) (2 ^ v) most w
 
 abbrev μ-loop : tie.MeasureT-loop
 μ-loop r v q out most w₀ w = most - w
@@ -24,7 +23,9 @@ shl-most : tie.Need-shl-most Inv-loop μ-loop
 shl-most c = search needs
 
 loop-holds : tie.Need-loop-holds Inv-loop μ-loop
-loop-holds c = each-starts _ _
+loop-holds c =
+    let at-start : tie.Start Inv-loop μ-loop = search in
+    each-starts (one-shifted 16 (at-start .args .v) (omega arith))
 
 bit-requires : tie.Need-bit-requires Inv-loop μ-loop
 bit-requires c κs = search needs
@@ -40,7 +41,7 @@ returns c =
     let a = read .before .before .args in
     let w = turn .before .loop .w in
     let one = served-once (a .r .now) (transitionsOf (a .r .now) (a .q)) w (c .before .before .bit .ensures ∙ read .leaving .ensures .some w) (c .before .bit2 .ensures ∙ read .leaving .ensures .several w) in
-    sym (each-stops (served (a .r .now) (transitionsOf (a .r .now) (a .q))) (one-shifted 16 (a .v) (omega arith)) (turn .loop-test .taken) (sym one ∙ not-true _ (c .if1 .taken)))
+    test-stops (turn .before .loop .inv) (turn .loop-test .taken) one (c .if1 .taken)
 
 add-w : tie.Need-add-w Inv-loop μ-loop
 add-w c = search needs
@@ -55,13 +56,11 @@ loop-again c =
     let a = read .before .before .args in
     let w = turn .before .loop .w in
     let one = served-once (a .r .now) (transitionsOf (a .r .now) (a .q)) w (c .before .before .bit .ensures ∙ read .leaving .ensures .some w) (c .before .bit2 .ensures ∙ read .leaving .ensures .several w) in
-    each-goes (served (a .r .now) (transitionsOf (a .r .now) (a .q))) (turn .loop-test .taken) (turn .before .loop .inv) (sym one ∙ not-false _ (c .if1 .left))
+    test-goes (turn .before .loop .inv) (turn .loop-test .taken) one (c .if1 .left)
 
 returns-2 : tie.Need-returns-2 Inv-loop μ-loop
 unfolding total
-returns-2 c =
-    let at-start : tie.Start Inv-loop μ-loop = search in
-    sym (each-ends _ (one-shifted 16 (at-start .args .v) (omega arith)) (c .loop-test .left) (c .before .loop .inv))
+returns-2 c = search each-ends
 
 pub total-spec : {M : Type 1} → statement M
 total-spec =

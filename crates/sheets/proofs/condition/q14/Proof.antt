@@ -1,22 +1,15 @@
 -- `q14` meets its contract. The invariant: automata 1 to x are unmixed. The measure is what is left of their number.
-use mathlib.Core.Path.{sym, _∙_}
-use Prim.Native.Nat.{ℕ, _+_, _-_}
-use native.Mathlib.Omega.{arith}
-use mathlib.Core.List.{List}
-use mathlib.Core.Bool.{Bool}
-use borrow.Author.Tests.{not-true, not-false}
-use Rattle.sheets.specs.Rules.{automata, statesOf, unmixed, q14}
-use Rattle.sheets.proofs.EachLoops.{Tested, each-starts, each-goes, each-stops, each-ends}
-use Rattle.sheets.proofs.ReachedPositions.{few-states}
 use borrow.Author.Needs.{needs}
+use Prim.Native.Nat.{_+_, _-_}
+use native.Mathlib.Omega.{arith}
+use Rattle.sheets.specs.Rules.{automata, statesOf, unmixed, q14}
+use Rattle.sheets.proofs.ReachedPositions.{few-states}
+use Rattle.sheets.proofs.EachLoops.{Tested, each-starts, test-goes, test-stops, each-ends}
 use Rattle.sheets.proofs.condition.q14.Statement.{statement}
 use Rattle.sheets.proofs.condition.q14.Tie as tie
 
-abbrev test : List ℕ → ℕ → Bool
-test r x = unmixed r (statesOf r x)
-
 abbrev Inv-loop : tie.InvT-loop
-Inv-loop r k x₀ x = Tested (test r) k x
+Inv-loop r k x₀ x = Tested (λ i. unmixed r (statesOf r i)) (automata r) k x
 
 abbrev μ-loop : tie.MeasureT-loop
 μ-loop r k x₀ x = k - x
@@ -25,7 +18,7 @@ automata-requires : tie.Need-automata-requires Inv-loop μ-loop
 automata-requires c κs = search needs
 
 loop-holds : tie.Need-loop-holds Inv-loop μ-loop
-loop-holds c = each-starts _ _
+loop-holds c = search each-starts
 
 add-x : tie.Need-add-x Inv-loop μ-loop
 add-x c = search needs
@@ -37,24 +30,17 @@ unmixed-requires c κs =
 
 returns : tie.Need-returns Inv-loop μ-loop
 unfolding q14
-returns c =
-    let turn = c .before .before in
-    let read = turn .before .before in
-    let no = sym (c .before .unmixed .ensures) ∙ not-true _ (c .if1 .taken) in
-    sym (each-stops (test (read .before .before .args .r .now)) (read .automata .ensures) (turn .loop-test .taken) no)
+returns c = search test-stops
 
 loop-less : tie.Need-loop-less Inv-loop μ-loop
 loop-less c = search needs
 
 loop-again : tie.Need-loop-again Inv-loop μ-loop
-loop-again c =
-    let at-start : tie.Start Inv-loop μ-loop = search in let turn = c .before .before in
-    let yes = sym (c .before .unmixed .ensures) ∙ not-false _ (c .if1 .left) in
-    each-goes (test (at-start .args .r .now)) (turn .loop-test .taken) (turn .before .loop .inv) yes
+loop-again c = search test-goes
 
 returns-2 : tie.Need-returns-2 Inv-loop μ-loop
 unfolding q14
-returns-2 c = sym (each-ends _ (c .before .before .automata .ensures) (c .loop-test .left) (c .before .loop .inv))
+returns-2 c = search each-ends
 
 pub q14-spec : {M : Type 1} → statement M
 q14-spec =

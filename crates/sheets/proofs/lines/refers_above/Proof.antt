@@ -1,28 +1,22 @@
 -- `refers_above` meets its contract. The invariant: the words passed refer to lines above. The measure is how many are left.
-use mathlib.Core.Path.{_≡_, refl, sym, _∙_}
-use native.Mathlib.Omega.{arith}
-use Prim.Native.Nat.{ℕ, _+_, _-_}
-use mathlib.Core.List.{List}
-use mathlib.Core.Bool.{Bool}
+use borrow.Author.Needs.{needs}
+use mathlib.Core.Path.{refl}
+use Prim.Native.Nat.{_+_, _-_}
 use Rattle.sheets.specs.Words.{within}
 use Rattle.sheets.specs.Rules.{lent, lineWord, refersAbove}
-use Rattle.sheets.proofs.Bounds.{inside, outside}
-use Rattle.sheets.proofs.EachLoops.{Tested, each-starts, each-goes, each-stops, each-ends}
-use borrow.Author.Needs.{needs}
+use Rattle.sheets.proofs.Bounds.{within-below}
+use Rattle.sheets.proofs.EachLoops.{Tested, each-starts, unless-goes, unless-stops, each-ends}
 use Rattle.sheets.proofs.lines.refers_above.Statement.{statement}
 use Rattle.sheets.proofs.lines.refers_above.Tie as tie
 
-abbrev test : List ℕ → ℕ → ℕ → ℕ → Bool
-test r j c i = within 1 (j - 1) (lineWord lent r j (c + i))
-
 abbrev Inv-loop : tie.InvT-loop
-Inv-loop r j c n i₀ i = Tested (test r j c) n i
+Inv-loop r j c n i₀ i = Tested (λ k. within 1 (j - 1) (lineWord lent r j (c + k))) n n i
 
 abbrev μ-loop : tie.MeasureT-loop
 μ-loop r j c n i₀ i = n - i
 
 loop-holds : tie.Need-loop-holds Inv-loop μ-loop
-loop-holds c = each-starts _ _
+loop-holds c = each-starts refl
 
 add-i : tie.Need-add-i Inv-loop μ-loop
 add-i c = search needs
@@ -36,37 +30,22 @@ line-word-requires c κs = search needs
 returns : tie.Need-returns Inv-loop μ-loop
 unfolding refersAbove
 returns c =
-    let at-start : tie.Start Inv-loop μ-loop = search in let a = at-start .args in
-    let i = c .before .before .before .loop .i + 1 in
-    let w = lineWord lent (a .r .now) (a .j) (a .c + i) in
-    let e : w ≡ 0 = sym (c .before .line-word .ensures) ∙ c .if1 .taken in
-    let f = outside 1 (a .j - 1) w (λ l h. omega arith) in
-    sym (each-stops (test (a .r .now) (a .j) (a .c)) refl (c .before .before .loop-test .taken) f)
-
-returns-2 : tie.Need-returns-2 Inv-loop μ-loop
-unfolding refersAbove
-returns-2 c =
-    let at-loop : tie.At-loop Inv-loop μ-loop = search in let a = at-loop .before .before .args in
-    let i = at-loop .loop .i + 1 in
-    let w = lineWord lent (a .r .now) (a .j) (a .c + i) in
-    let f = outside 1 (a .j - 1) w (λ l h. omega (arith, c .before .before .line-word .ensures)) in
-    sym (each-stops (test (a .r .now) (a .j) (a .c)) refl (c .before .before .before .loop-test .taken) f)
+    let turn : tie.In-loop Inv-loop μ-loop = search in
+    let law = within-below (turn .before .before .before .args .j) (c .before .line-word .result) in
+    unless-stops (turn .before .loop .inv) (turn .loop-test .taken) (cc)
 
 loop-less : tie.Need-loop-less Inv-loop μ-loop
 loop-less c = search needs
 
 loop-again : tie.Need-loop-again Inv-loop μ-loop
 loop-again c =
-    let at-loop : tie.At-loop Inv-loop μ-loop = search in let a = at-loop .before .before .args in
-    let i = at-loop .loop .i + 1 in
-    let w = lineWord lent (a .r .now) (a .j) (a .c + i) in
-    let e = c .before .before .line-word .ensures in
-    let f = inside 1 (a .j - 1) w (omega (arith, c .before .if1 .left)) (omega arith) in
-    each-goes (test (a .r .now) (a .j) (a .c)) (c .before .before .before .loop-test .taken) (at-loop .loop .inv) f
+    let turn : tie.In-loop Inv-loop μ-loop = search in
+    let law = within-below (turn .before .before .before .args .j) (c .before .line-word .result) in
+    unless-goes (turn .before .loop .inv) (turn .loop-test .taken) (cc)
 
-returns-3 : tie.Need-returns-3 Inv-loop μ-loop
+returns-2 : tie.Need-returns-2 Inv-loop μ-loop
 unfolding refersAbove
-returns-3 c = sym (each-ends _ refl (c .loop-test .left) (c .before .loop .inv))
+returns-2 c = search each-ends
 
 pub refers-above-spec : {M : Type 1} → statement M
 refers-above-spec =
@@ -79,7 +58,6 @@ refers-above-spec =
     add-line-word
     line-word-requires
     returns
-    returns-2
     loop-less
     loop-again
-    returns-3)
+    returns-2)
