@@ -3,6 +3,7 @@ ghost use mathlib.Core.Path.{_≡_};
 ghost use mathlib.Core.List.{_∷_, []};
 ghost use Prim.Native.Nat.{ℕ, _+_, _-_, _*_, _^_, _<_, _≤_};
 ghost use Rattle.sheets.specs.Questions.{ask, firstNo};
+ghost use lib.Dec.{T};
 ghost use Rattle.sheets.specs.Format.{operationPlace, variablesMost};
 ghost use Rattle.sheets.specs.Operations.{oneSignal, linesAbove};
 ghost use Rattle.sheets.specs.Rules as Rules;
@@ -192,25 +193,44 @@ pub fn lines_refusal(r: &[u16]) -> u16
     0
 }
 
-// Question 16 of line j: a signal's number is at most a, and another line has none.
-fn signal_most(r: &[u16], j: u16, a: u16) -> bool
+// A signal's number is at most a, and another line has none.
+fn signal_most(line: Line, a: u16) -> bool
+    ensures { λ b. ⌜ b ≡ Lines.mostOf a line ⌝ }
+{
+    match line {
+        Line::Signal(i) => i <= a,
+        Line::Negation(_) => true,
+        Line::Either(_, _) => true,
+        Line::SomePath(_) => true,
+        Line::SomePathNot(_) => true,
+    }
+}
+
+// Question 16 of line j, which question 15 accepts. Only a signal is taken apart.
+fn line_over(r: &[u16], j: u16, a: u16) -> bool
+    requires { ⌜ T (Rules.lineFits Rules.lent (now r) j (Rules.lineWord Rules.lent (now r) j operationPlace)) ⌝ }
     ensures { λ b. ⌜ b ≡ Rules.signalMost a (Rules.line Rules.lent (now (r .entry)) j) ⌝ }
 {
     if operation(r, j) != SIGNAL {
         return true;
     }
-    rules::line_word(r, j, 1) <= a
+    let decoded = decode(r, j);
+    let Decoded::Formed(line) = decoded else {
+        return false;
+    };
+    signal_most(line, a)
 }
 
-// Question 16: the signal numbers are at most a.
+// Question 16, of a sheet that question 15 accepts: the signal numbers are at most a.
 pub fn over_signals(r: &[u16], a: u16) -> bool
+    requires { ⌜ T (Rules.q15 Rules.lent (now r)) ⌝ }
     ensures { λ b. ⌜ b ≡ Rules.overSignals Rules.lent a (now (r .entry)) ⌝ }
 {
     let l = rules::lines(r);
     let mut j: u16 = 0;
     while j < l {
         j += 1;
-        if !signal_most(r, j, a) {
+        if !line_over(r, j, a) {
             return false;
         }
     }

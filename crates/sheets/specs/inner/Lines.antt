@@ -3,6 +3,7 @@
 use Prim.Native.Nat.{ℕ}
 use mathlib.Core.List.{List, [], _∷_}
 use mathlib.Core.Bool.{Bool, true, false}
+use lib.Dec.{leb}
 use Rattle.sheets.specs.Format.{operationPlace}
 use Rattle.sheets.specs.Structures as Structures
 use Rattle.sheets.specs.Rules.{lent, lineWord, lineFits, line}
@@ -38,3 +39,11 @@ decodedAs true l = handed l
 unfoldable pub decoded : List ℕ → ℕ → Decoded
 unfolding decodedAs lineWord lineFits line lent
 decoded R j = decodedAs (lineFits lent R j (lineWord lent R j operationPlace)) (line lent R j)
+
+-- a signal's number is at most a, and another line has none
+unfoldable pub mostOf : ℕ → Line → Bool
+mostOf a (Signal i) = leb i a
+mostOf a (Negation j) = true
+mostOf a (Either i j) = true
+mostOf a (SomePath p) = true
+mostOf a (SomePathNot p) = true

@@ -1,9 +1,10 @@
 -- `sheets_refusal` meets its contract, by the parts of the table: the machine, the rule, the signals.
+use mathlib.Core.Path.{sym, _∙_}
 use borrow.Author.Needs.{needs}
 use Rattle.sheets.specs.Machine.{machineRefusal}
-use Rattle.sheets.specs.Rules.{ruleRefusal}
+use Rattle.sheets.specs.Rules.{lent, ruleRefusal}
 use Rattle.sheets.specs.Sheets.{sheetQuestions}
-use Rattle.sheets.proofs.Questions.{asked}
+use Rattle.sheets.proofs.Questions.{rule-answers, asked}
 use Rattle.sheets.proofs.SheetTable.{machine-numbered, rules-numbered}
 use Rattle.sheets.proofs.checks.sheets_refusal.Statement.{statement}
 use Rattle.sheets.proofs.checks.sheets_refusal.Tie as tie
@@ -26,7 +27,7 @@ signals-requires : tie.Need-signals-requires
 signals-requires c κs = search needs
 
 over-signals-requires : tie.Need-over-signals-requires
-over-signals-requires c κs = search needs
+over-signals-requires c κs = let rules = c .before .before in rule-answers lent _ (sym (rules .rule-refusal .ensures) ∙ c .before .if2 .left) .fifteen
 
 returns-3 : tie.Need-returns-3
 unfolding sheetQuestions machineRefusal ruleRefusal

@@ -1,7 +1,9 @@
 -- `over_signals` meets its contract. The invariant: the lines passed have signal numbers of at most a. The measure is how many are left.
 use borrow.Author.Needs.{needs}
 use Prim.Native.Nat.{_-_}
-use Rattle.sheets.specs.Rules.{lent, lines, line, signalMost, overSignals}
+use native.Mathlib.Omega.{arith}
+use Rattle.sheets.specs.Rules.{lent, lines, line, signalMost, q15, overSignals}
+use Rattle.sheets.proofs.Search.{each-at}
 use Rattle.sheets.proofs.EachLoops.{Tested, each-starts, test-goes, test-stops, each-ends}
 use Rattle.sheets.proofs.lines.over_signals.Statement.{statement}
 use Rattle.sheets.proofs.lines.over_signals.Tie as tie
@@ -21,8 +23,13 @@ loop-holds c = search each-starts
 add-j : tie.Need-add-j Inv-loop μ-loop
 add-j c = search needs
 
-signal-most-requires : tie.Need-signal-most-requires Inv-loop μ-loop
-signal-most-requires c κs = search needs
+line-over-requires : tie.Need-line-over-requires Inv-loop μ-loop
+unfolding q15
+line-over-requires c κs =
+    let turn : tie.In-loop Inv-loop μ-loop = search in
+    let read = turn .before .before in
+    let start = read .before .before in
+    each-at (lines (start .args .r .now)) _ (start .pre) _ (omega arith) (omega (arith, read .lines .ensures, turn .loop-test .taken))
 
 returns : tie.Need-returns Inv-loop μ-loop
 unfolding overSignals
@@ -47,7 +54,7 @@ over-signals-spec =
     lines-requires
     loop-holds
     add-j
-    signal-most-requires
+    line-over-requires
     returns
     loop-less
     loop-again
