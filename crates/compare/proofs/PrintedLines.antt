@@ -165,7 +165,7 @@ files-compared first second even₁ even₂ ok₁ ok₂ line p =
 -- ---- the marked case (a): M1, M2 equal; the program prints exactly `equal`
 
 pub case-a : (line : Line) → Printed (bytesOf (M1 ++ M2)) line → text line ≡ lineBytes Equal
-unfolding bytesOf readable signals nodes word
+unfolding bytesOf signals nodes word
 case-a line p =
     let one = input-cases .case-a-first in
     let two = input-cases .case-a-second in

@@ -3,14 +3,10 @@ mod answer; // answer.rt: what is answered to the input, and the line that says 
 
 use input::limits;
 use libc::STDIN_FILENO;
-use libc::STDOUT_FILENO;
 
 // Reads one byte more than is taken, so that a longer input is noticed.
 fn main() {
     let mut input = [0u8; limits::MACHINES_BYTES + 1];
     let n = io::read_full(STDIN_FILENO, &mut input);
-    let line = answer::line_for(&input[..n]);
-    let bytes = line.bytes;
-    let len = line.len;
-    io::write_all(STDOUT_FILENO, &bytes[..len]);
+    say::line(answer::line_for(&input[..n]));
 }

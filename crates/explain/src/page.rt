@@ -1,5 +1,5 @@
 // A page of text: bytes in a lent space, line below line, none of them too long and not too many.
-ghost use Rattle.explain.specs.Pages.{Follows};
+ghost use Rattle.explain.specs.Pages.{pageSize, pageWidth, pageHeight, Follows};
 ghost use mathlib.Core.Path.{_≡_};
 ghost use Prim.Native.Nat.{_<_};
 
@@ -30,8 +30,9 @@ pub fn top() -> Cursor
     }
 }
 
-fn without_room(c: Cursor) -> Cursor
-    ensures { λ r. ⌜ (r .at ≡ c .at) × (r .column ≡ c .column) × (r .lines ≡ c .lines) ⌝ }
+// Puts nothing, and says so.
+fn without_room(page: &mut [u8; SIZE], c: Cursor) -> Cursor
+    ensures { λ r. ⌜ Follows (now (page .entry)) c (now (page .exit)) r ⌝ }
 {
     Cursor {
         at: c.at,
@@ -41,25 +42,52 @@ fn without_room(c: Cursor) -> Cursor
     }
 }
 
+// Puts one byte, which ends no line, where there is room for it.
+fn put_there(page: &mut [u8; SIZE], c: Cursor, byte: u8) -> Cursor
+    requires { ⌜ (c .at < pageSize) × (c .column < pageWidth) × (byte ≡ 10 → ⊥) ⌝ }
+    ensures { λ r. ⌜ Follows (now (page .entry)) c (now (page .exit)) r ⌝ }
+{
+    let at = c.at;
+    page[at] = byte;
+    let next = at + 1;
+    let column = c.column + 1;
+    Cursor {
+        at: next,
+        column: column,
+        lines: c.lines,
+        over: c.over,
+    }
+}
+
 // Puts one byte, which ends no line.
 fn put_byte(page: &mut [u8; SIZE], c: Cursor, byte: u8) -> Cursor
     ensures { λ r. ⌜ Follows (now (page .entry)) c (now (page .exit)) r ⌝ }
 {
-    let at = c.at;
-    if at >= SIZE {
-        return without_room(c);
+    if c.at >= SIZE {
+        return without_room(page, c);
     }
     if c.column >= WIDTH {
-        return without_room(c);
+        return without_room(page, c);
     }
     if byte == b'\n' {
-        return without_room(c);
+        return without_room(page, c);
     }
-    page[at] = byte;
+    put_there(page, c, byte)
+}
+
+// Ends the line, where there is room for that.
+fn end_there(page: &mut [u8; SIZE], c: Cursor) -> Cursor
+    requires { ⌜ (c .at < pageSize) × (c .lines < pageHeight) ⌝ }
+    ensures { λ r. ⌜ Follows (now (page .entry)) c (now (page .exit)) r ⌝ }
+{
+    let at = c.at;
+    page[at] = b'\n';
+    let next = at + 1;
+    let lines = c.lines + 1;
     Cursor {
-        at: at + 1,
-        column: c.column + 1,
-        lines: c.lines,
+        at: next,
+        column: 0,
+        lines: lines,
         over: c.over,
     }
 }
@@ -68,20 +96,13 @@ fn put_byte(page: &mut [u8; SIZE], c: Cursor, byte: u8) -> Cursor
 pub fn end_line(page: &mut [u8; SIZE], c: Cursor) -> Cursor
     ensures { λ r. ⌜ Follows (now (page .entry)) c (now (page .exit)) r ⌝ }
 {
-    let at = c.at;
-    if at >= SIZE {
-        return without_room(c);
+    if c.at >= SIZE {
+        return without_room(page, c);
     }
     if c.lines >= HEIGHT {
-        return without_room(c);
+        return without_room(page, c);
     }
-    page[at] = b'\n';
-    Cursor {
-        at: at + 1,
-        column: 0,
-        lines: c.lines + 1,
-        over: c.over,
-    }
+    end_there(page, c)
 }
 
 // Puts the bytes of a text of one line.

@@ -28,6 +28,14 @@ fn between(page: &mut [u8; page::SIZE], c: Cursor, left: u32, pair: bool) -> Cur
     page::put(page, c, b", ")
 }
 
+// A signal's number, but the first.
+fn next_number(page: &mut [u8; page::SIZE], c: Cursor, left: u32, pair: bool, n: u16) -> Cursor
+    ensures { λ r. ⌜ Follows (now (page .entry)) c (now (page .exit)) r ⌝ }
+{
+    let joined = between(page, c, left, pair);
+    page::put_number(page, joined, n)
+}
+
 // The number of signal i + 1, if it is in the set; `pair` where two are in it and neither is on.
 fn put_signal(page: &mut [u8; page::SIZE], c: Cursor, set: u16, i: u16, pair: bool) -> Cursor
     requires { ⌜ i < wordBits ⌝ }
@@ -41,8 +49,7 @@ fn put_signal(page: &mut [u8; page::SIZE], c: Cursor, set: u16, i: u16, pair: bo
     if left == u16::count_ones(set) {
         return page::put_number(page, c, i + 1);
     }
-    let joined = between(page, c, left, pair);
-    page::put_number(page, joined, i + 1)
+    next_number(page, c, left, pair, i + 1)
 }
 
 // The numbers of a set of signals.
@@ -140,6 +147,15 @@ fn new_line(page: &mut [u8; page::SIZE], c: Cursor, level: u16) -> Cursor
     page::indent(page, ended, level)
 }
 
+// Puts the end of a line and the head of the next one, at a level.
+fn put_across(page: &mut [u8; page::SIZE], c: Cursor, level: u16, end: &[u8], head: &[u8]) -> Cursor
+    ensures { λ r. ⌜ Follows (now (page .entry)) c (now (page .exit)) r ⌝ }
+{
+    let ended = page::put(page, c, end);
+    let begun = new_line(page, ended, level);
+    page::put(page, begun, head)
+}
+
 // "and", in the same line or in the next one.
 fn and(page: &mut [u8; page::SIZE], c: Cursor, level: u16, flow: bool) -> Cursor
     ensures { λ r. ⌜ Follows (now (page .entry)) c (now (page .exit)) r ⌝ }
@@ -147,9 +163,7 @@ fn and(page: &mut [u8; page::SIZE], c: Cursor, level: u16, flow: bool) -> Cursor
     if flow {
         return page::put(page, c, b", and ");
     }
-    let ended = page::put(page, c, b",");
-    let begun = new_line(page, ended, level);
-    page::put(page, begun, b"and ")
+    put_across(page, c, level, b",", b"and ")
 }
 
 // "and", where another part stands before.
@@ -299,18 +313,39 @@ fn put_line(page: &mut [u8; page::SIZE], c: Cursor, l: u16) -> Cursor
     page::put_number(page, said, l)
 }
 
+// "line 7" and what is said of it.
+fn line_said(page: &mut [u8; page::SIZE], c: Cursor, l: u16, said: &[u8]) -> Cursor
+    ensures { λ r. ⌜ Follows (now (page .entry)) c (now (page .exit)) r ⌝ }
+{
+    let named = put_line(page, c, l);
+    page::put(page, named, said)
+}
+
 // A part that only refers to its line.
 fn referred(page: &mut [u8; page::SIZE], c: Cursor, l: u16, mark: u8) -> Cursor
     ensures { λ r. ⌜ Follows (now (page .entry)) c (now (page .exit)) r ⌝ }
 {
-    let said = put_line(page, c, l);
     if mark == parts::HOLDS {
-        return page::put(page, said, b" holds");
+        return line_said(page, c, l, b" holds");
     }
     if mark == parts::FAILS {
-        return page::put(page, said, b" does not hold");
+        return line_said(page, c, l, b" does not hold");
     }
-    page::put(page, said, b" holds and does not hold")
+    line_said(page, c, l, b" holds and does not hold")
+}
+
+// The same, as a part that is put as a whole.
+fn reference(page: &mut [u8; page::SIZE], c: Cursor, l: u16, mark: u8) -> Put
+    ensures { λ r. ⌜ Follows (now (page .entry)) c (now (page .exit)) (r .cursor) ⌝ }
+{
+    Put {
+        cursor: referred(page, c, l, mark),
+        open: false,
+        line: 0,
+        mark: 0,
+        level: 0,
+        flow: false,
+    }
 }
 
 // Some next node, or none, has line j.
@@ -341,7 +376,39 @@ fn or_part(rule: &[u16], page: &mut [u8; page::SIZE], c: Cursor, at: Place, l: u
     if put.open {
         return put;
     }
-    closed(referred(page, c, l, parts::HOLDS))
+    reference(page, c, l, parts::HOLDS)
+}
+
+// Line l with its mark, behind what stands before it.
+fn marked_part(
+    rule: &[u16],
+    page: &mut [u8; page::SIZE],
+    c: Cursor,
+    at: Place,
+    l: u16,
+    mark: u8,
+) -> Put
+    ensures { λ r. ⌜ Follows (now (page .entry)) c (now (page .exit)) (r .cursor) ⌝ }
+{
+    if mark > parts::FAILS {
+        return reference(page, c, l, mark);
+    }
+    let said = parts::meaning(rule, l);
+    match said {
+        Says::Next(j) => {
+            if mark == parts::HOLDS {
+                return next_part(rule, page, c, at, b"some next node has", j);
+            }
+            next_part(rule, page, c, at, b"no next node has", j)
+        }
+        Says::Or(_, _) => {
+            if mark == parts::HOLDS {
+                return or_part(rule, page, c, at, l);
+            }
+            reference(page, c, l, mark)
+        }
+        _ => reference(page, c, l, mark),
+    }
 }
 
 // Line l with its mark, as the first part or the next one; nothing, if it has no mark.
@@ -352,25 +419,7 @@ fn part(rule: &[u16], page: &mut [u8; page::SIZE], c: Cursor, at: Place, l: u16,
         return closed(c);
     }
     let begun = after_others(page, c, at);
-    if mark > parts::FAILS {
-        return closed(referred(page, begun, l, mark));
-    }
-    let said = parts::meaning(rule, l);
-    match said {
-        Says::Next(j) => {
-            if mark == parts::HOLDS {
-                return next_part(rule, page, begun, at, b"some next node has", j);
-            }
-            next_part(rule, page, begun, at, b"no next node has", j)
-        }
-        Says::Or(_, _) => {
-            if mark == parts::HOLDS {
-                return or_part(rule, page, begun, at, l);
-            }
-            closed(referred(page, begun, l, mark))
-        }
-        _ => closed(referred(page, begun, l, mark)),
-    }
+    marked_part(rule, page, begun, at, l, mark)
 }
 
 // ---- the sentence

@@ -57,6 +57,19 @@ pub extern "C" fn toqshenay_label(
     ensures { λ q. ⌜ Told (LabelAnswer (now (m .entry)) (now (r .entry)) (now (rows .entry)) (now (rows .exit))) labelNumbers (record { question = q; sheet = now (sheet .exit); kept = now (kept .exit); count = now (count .exit); percent = now (percent .exit) }) ⌝ }
 {
     let answer = labelling::label(m, r, rows);
+    tell_label(answer, sheet, kept, count, percent)
+}
+
+// The numbers of labelling's answer.
+fn tell_label(
+    answer: Labelled,
+    sheet: &mut u16,
+    kept: &mut u16,
+    count: &mut u32,
+    percent: &mut u32,
+) -> u16
+    ensures { λ q. ⌜ record { question = q; sheet = now (sheet .exit); kept = now (kept .exit); count = now (count .exit); percent = now (percent .exit) } ≡ labelNumbers answer ⌝ }
+{
     match answer {
         Labelled::Refused { question, sheet: s } => {
             *sheet = s;
@@ -156,6 +169,13 @@ pub extern "C" fn toqshenay_compare(
     ensures { λ q. ⌜ Told (CompareAnswer (now (m1 .entry)) (now (m2 .entry)) (now (space .entry)) (now (space .exit))) compareNumbers (record { question = q; sheet = now (sheet .exit); unequal = now (unequal .exit) }) ⌝ }
 {
     let answer = compare::compare(m1, m2, space);
+    tell_compare(answer, sheet, unequal)
+}
+
+// The numbers of a comparison's answer.
+fn tell_compare(answer: Answer, sheet: &mut u16, unequal: &mut u16) -> u16
+    ensures { λ q. ⌜ record { question = q; sheet = now (sheet .exit); unequal = now (unequal .exit) } ≡ compareNumbers answer ⌝ }
+{
     match answer {
         Answer::Refused { question, sheet: s } => {
             *sheet = s;

@@ -99,7 +99,6 @@ module _ (M : List ℕ) (accepted : machineRefusal M ≡ 0) where
 module _ (first second : List ℕ) (even₁ : length first % 2 ≡ 0) (even₂ : length second % 2 ≡ 0)
     (ok₁ : machineRefusal (wordsOf first) ≡ 0) (ok₂ : machineRefusal (wordsOf second) ≡ 0) where
   pub joined-readable : readable machinesBytes (length (first ++ second)) ≡ true
-  unfolding readable
   joined-readable =
       let size = length-append first second in
       let few : length (first ++ second) ≤ machinesBytes =

@@ -49,7 +49,6 @@ words-all bytes before after n room counted e =
     rw (e, take-all n (wordsOf bytes) (omega arith)) (take-at (wordsOf bytes) (drop n before) n all)
 
 readable-most : (most count : ℕ) → readable most count ≡ true → count ≤ most
-unfolding readable
 readable-most most count ok = leb→le count most (and-left (leb count most) (eqb (count % 2) 0) (subst⁻¹ T ok tt))
 
 -- a readable count of bytes makes no more words than there is space for

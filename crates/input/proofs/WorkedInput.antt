@@ -13,7 +13,7 @@ use Rattle.input.specs.Lines.{refusedLine}
 
 -- end result
 pub read-back : (words : List ℕ) → wordsOf (bytesOf words) ≡ words
-unfolding bytesOf wordsOf wordOf
+unfolding bytesOf wordsOf
 read-back [] = refl
 read-back (w ∷ ws) =
     let e : w % 256 + 256 * (w / 256) ≡ w = omega arith in
@@ -27,5 +27,5 @@ pub record InputCases : Type 0 where
   pub two : refusedLine 22 0 ≡ 114 ∷ 101 ∷ 102 ∷ 117 ∷ 115 ∷ 101 ∷ 100 ∷ 32 ∷ 50 ∷ 50 ∷ 32 ∷ 48 ∷ 10 ∷ []
 
 pub input-cases : InputCases
-unfolding refusedLine decimal digits bytesOf wordsOf wordOf firstSheet secondSheet firstEnd q1 nodes signals edges word within
+unfolding refusedLine decimal digits bytesOf wordsOf firstSheet secondSheet firstEnd q1 nodes signals edges word within
 input-cases = record { case-a-first = refl; case-a-second = refl; five = refl; two = refl }

@@ -6,16 +6,15 @@ use mathlib.Core.Bool.{Bool, _&&_}
 use lib.Dec.{leb, eqb}
 
 -- a number of bytes that is taken, of which there are so many at most: "`refused 0 0` for an odd byte count or more than 20,000 bytes"
-unfoldable pub readable : ℕ → ℕ → Bool
+abbrev pub readable : ℕ → ℕ → Bool
 readable most count = leb count most && eqb (count % 2) 0
 
 -- "low byte first"
-unfoldable pub wordOf : ℕ → ℕ → ℕ
+abbrev pub wordOf : ℕ → ℕ → ℕ
 wordOf low high = low + 256 * high
 
 -- the words of the bytes; a last byte without its other half, which no readable count has, makes none
 unfoldable pub wordsOf : List ℕ → List ℕ
-unfolding wordOf
 wordsOf [] = []
 wordsOf (low ∷ []) = []
 wordsOf (low ∷ high ∷ bytes) = wordOf low high ∷ wordsOf bytes

@@ -10,7 +10,7 @@ ghost use Rattle.input.specs.Bytes as Bytes;
 pub fn readable(count: usize, most: usize) -> bool
     ensures { λ r. ⌜ r ≡ Bytes.readable most count ⌝ }
 {
-    count <= most && count % 2 == 0
+    (count <= most) & (count % 2 == 0)
 }
 
 // The word of two bytes.

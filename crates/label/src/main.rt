@@ -3,6 +3,8 @@
 mod answer; // answer.rt: what is answered to the input
 mod print; // print.rt: what is printed
 
+ghost use Rattle.label.specs.Program.{Answers};
+use answer::Answer;
 use input::limits;
 use libc::STDIN_FILENO;
 use sheets::format;
@@ -15,6 +17,13 @@ fn main() {
     let n = io::read_full(STDIN_FILENO, &mut input);
     let mut rows = [0u64; sizes::ROW_WORDS * format::LINES];
     let answer = answer::answer_to(&input[..n], &mut rows);
+    show(answer, &rows);
+}
+
+// Prints an answer, whose rows lie in the space.
+fn show(answer: Answer, rows: &[u64])
+    requires { ⌜ Answers (now rows) answer ⌝ }
+{
     let labelled = answer.labelled;
     match labelled {
         Labelled::Refused { question, sheet } => say::refusal(question, sheet),
@@ -23,7 +32,7 @@ fn main() {
             count,
             percent,
         } => {
-            print::rows(&rows, answer.nodes, answer.lines);
+            print::rows(rows, answer.nodes, answer.lines);
             print::verdict(answer.nodes, kept, count, percent);
         }
     }

@@ -5,15 +5,20 @@ use libc::STDOUT_FILENO;
 use truth::rows::Row;
 use truth::tables::line_row;
 
+// A node's number, if it is in the row.
+fn node_in(row: Row, s: u16) {
+    if row.has(s) {
+        say::text(b" ");
+        say::number(s);
+    }
+}
+
 // The numbers of the row's nodes.
 fn nodes_in(row: Row, nodes: u16) {
     let mut s: u16 = 0;
     while s < nodes {
         s += 1;
-        if row.has(s) {
-            say::text(b" ");
-            say::number(s);
-        }
+        node_in(row, s);
     }
 }
 

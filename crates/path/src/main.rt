@@ -4,6 +4,7 @@ mod answer; // answer.rt: what is answered to the input
 mod arguments; // arguments.rt: what the arguments ask for
 mod print; // print.rt: what is printed
 
+ghost use Rattle.path.specs.Program.{Answers};
 use arguments::Asked;
 use input::limits;
 use libc::STDERR_FILENO;
@@ -25,11 +26,18 @@ fn show(line: u16, node: u16) {
     let mut nodes = [0u16; sizes::PAIRS];
     let mut states = [0u16; sizes::PAIRS];
     let answer = answer::answer_to(&input[..n], line, node, &mut nodes, &mut states);
+    tell(answer, node, &nodes, &states);
+}
+
+// Prints an answer, whose pairs lie in the lists.
+fn tell(answer: Shown, node: u16, nodes: &[u16], states: &[u16])
+    requires { ⌜ Answers (now nodes) (now states) answer ⌝ }
+{
     match answer {
         Shown::Refused { question, sheet } => say::refusal(question, sheet),
         Shown::NoPath => print::no_path(node),
         Shown::Path { length, back } => {
-            print::pairs(&nodes, &states, length);
+            print::pairs(nodes, states, length);
             print::back_to(back);
         }
     }

@@ -1,5 +1,5 @@
 // What is printed of a path.
-ghost use Prim.Native.Nat.{_≤_};
+ghost use Prim.Native.Nat.{_≤_, _<_};
 ghost use lib.ListN.{length};
 
 // `no path: the line is false at node 2`
@@ -20,16 +20,21 @@ fn pair(i: u16, node: u16, state: u16) {
     say::text(b"\n");
 }
 
+// Pair i + 1 of the lists.
+fn pair_at(nodes: &[u16], states: &[u16], i: u16)
+    requires { ⌜ (i < length (now nodes)) × (i < length (now states)) × (i < 65535) ⌝ }
+{
+    pair(i + 1, nodes[i as usize], states[i as usize]);
+}
+
 // The first `count` pairs of the lists.
 pub fn pairs(nodes: &[u16], states: &[u16], count: u16)
     requires { ⌜ (count ≤ length (now nodes)) × (count ≤ length (now states)) ⌝ }
 {
     let mut i: u16 = 0;
     while i < count {
-        let node = nodes[i as usize];
-        let state = states[i as usize];
+        pair_at(nodes, states, i);
         i += 1;
-        pair(i, node, state);
     }
 }
 

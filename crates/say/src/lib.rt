@@ -2,11 +2,24 @@
 // each function is proved safe and ends.
 mod reason; // reason.rt: what is wrong, for each question
 
+ghost use Prim.Native.Nat.{ℕ};
+ghost use mathlib.Core.List.{List};
+ghost use Rattle.text.specs.Lines.{Holds};
 use libc::STDOUT_FILENO;
+use text::line::Line;
 
 // Prints bytes as they are.
 pub fn text(bytes: &[u8]) {
     io::write_all(STDOUT_FILENO, bytes);
+}
+
+// Prints a line that holds a text.
+pub fn line(line: Line)
+    requires { ⌜ ((held : List ℕ) × Holds line held) ⌝ }
+{
+    let bytes = line.bytes;
+    let len = line.len;
+    text(&bytes[..len]);
 }
 
 // Prints a number in decimal digits.

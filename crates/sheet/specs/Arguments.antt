@@ -28,13 +28,13 @@ same (x ∷ xs) [] = false
 same (x ∷ xs) (y ∷ ys) = eqb x y && same xs ys
 
 -- a word that names the sheet to check, of a text or of bytes
-unfoldable pub checkOf : Bool → List ℕ → Asked
+abbrev pub checkOf : Bool → List ℕ → Asked
 checkOf text word = cond (same word machineWord) (Check Machine text) (cond (same word rulesWord) (Check Rules text) Usage)
 
 -- one word
-unfoldable pub alone : List ℕ → Asked
+abbrev pub alone : List ℕ → Asked
 alone word = cond (same word bytesWord) Bytes (cond (same word textWord) Text (checkOf false word))
 
 -- the number of the program's words, its own name among them, and the two after that
-unfoldable pub askedOf : ℕ → List ℕ → List ℕ → Asked
+abbrev pub askedOf : ℕ → List ℕ → List ℕ → Asked
 askedOf count first second = cond (eqb count 2) (alone first) (cond (eqb count 3 && same second textWord) (checkOf true first) Usage)

@@ -5,9 +5,7 @@
 mod answer; // answer.rt: what is answered to a sheet that is checked, and the line that says it
 mod asked; // asked.rt: what the arguments ask for
 
-ghost use mathlib.Core.Path.{_≡_};
-ghost use Prim.Native.Nat.{ℕ, _≤_};
-ghost use lib.ListN.{length};
+ghost use Rattle.sheet.specs.Parts.{Part};
 use answer::Answer;
 use answer::Sort;
 use asked::Asked;
@@ -37,12 +35,26 @@ fn main() {
     }
 }
 
+// A text turned into bytes.
+fn turned_bytes(text: &[u8], sheet: &mut [u8]) -> Turned
+    ensures { λ r. ⌜ Part r (now (sheet .exit)) ⌝ }
+{
+    turn::bytes_of_text(text, sheet)
+}
+
+// Bytes turned into a text.
+fn turned_text(sheet: &[u8], text: &mut [u8]) -> Turned
+    ensures { λ r. ⌜ Part r (now (text .exit)) ⌝ }
+{
+    turn::text_of_bytes(sheet, text)
+}
+
 // Text in, bytes out. One byte more is read than is taken, so that a longer text is noticed.
 fn bytes() {
     let mut text = [0u8; limits::TEXT_BYTES + 1];
     let n = io::read_full(STDIN_FILENO, &mut text);
     let mut sheet = [0u8; limits::SHEETS_BYTES];
-    let turned = turn::bytes_of_text(&text[..n], &mut sheet);
+    let turned = turned_bytes(&text[..n], &mut sheet);
     tell(turned, &sheet, b"more than 200000 bytes\n");
 }
 
@@ -51,7 +63,7 @@ fn text() {
     let mut sheet = [0u8; limits::SHEETS_BYTES + 1];
     let n = io::read_full(STDIN_FILENO, &mut sheet);
     let mut text = [0u8; 6 * limits::SHEETS_WORDS];
-    let turned = turn::text_of_bytes(&sheet[..n], &mut text);
+    let turned = turned_text(&sheet[..n], &mut text);
     tell(turned, &text, b"more than 29006 bytes, 14503 words\n");
 }
 
@@ -60,10 +72,7 @@ fn check(sort: Sort, text: bool) {
     let mut input = [0u8; limits::TEXT_BYTES + 1];
     let n = io::read_full(STDIN_FILENO, &mut input);
     let told = answer::told_for(sort, text, &input[..n]);
-    let line = told.line;
-    let bytes = line.bytes;
-    let len = line.len;
-    io::write_all(STDOUT_FILENO, &bytes[..len]);
+    say::line(told.line);
     let answer = told.answer;
     match answer {
         Answer::Checked { check } => explain(check),
@@ -82,12 +91,26 @@ fn explain(check: Check) {
 
 // Prints what is written, or what is wrong; `long` says that more bytes came than are taken.
 fn tell(turned: Turned, written: &[u8], long: &[u8])
-    requires { ⌜ ((count : ℕ) → turned ≡ Turned.Done count → count ≤ length (now written)) ⌝ }
+    requires { ⌜ Part turned (now written) ⌝ }
 {
+    show(turned, written);
+    blame(turned, long);
+}
+
+// Prints what is written.
+fn show(turned: Turned, written: &[u8])
+    requires { ⌜ Part turned (now written) ⌝ }
+{
+    let Turned::Done { count } = turned else {
+        return;
+    };
+    io::write_all(STDOUT_FILENO, &written[..count]);
+}
+
+// Prints what is wrong, if anything is.
+fn blame(turned: Turned, long: &[u8]) {
     match turned {
-        Turned::Done { count } => {
-            io::write_all(STDOUT_FILENO, &written[..count]);
-        }
+        Turned::Done { count: _ } => {}
         Turned::Fault { kind, at } => complain_of(kind, at),
         Turned::Odd => complain(b"an odd number of bytes\n"),
         Turned::Long => complain(long),

@@ -37,7 +37,6 @@ abbrev Most : ℕ → Place → Type 0
 Most k at = (at .line ≤ k) × (at .column ≤ k)
 
 next-most : (at : Place) (b k : ℕ) → Most k at → Most (k + 1) (next at b)
-unfolding next
 next-most at b k h = by (eqb b 10)
   where
     by : (newline : Bool) → Most (k + 1) (cond newline (record { line = at .line + 1; column = 1 }) (record { line = at .line; column = at .column + 1 }))

@@ -67,13 +67,13 @@ decimal-some n =
 -- ---- reading
 
 digit-sort : (b : ℕ) → 48 ≤ b → b ≤ 57 → sortOf b ≡ Digit (b - 48)
-unfolding sortOf blank
+unfolding sortOf
 digit-sort b low high =
     let apart : (k : ℕ) → (b ≡ k → ⊥) → eqb b k ≡ false = ne-eqb b in
     simp (apart 32 (λ e. omega arith), apart 9 (λ e. omega arith), apart 13 (λ e. omega arith), apart 10 (λ e. omega arith), le-leb 48 b low, le-leb b 57 high)
 
 ender-sort : (i left : ℕ) → sortOf (enderOf i left) ≡ Blank
-unfolding enderOf sortOf blank
+unfolding sortOf
 ender-sort i left = by (eqb (i % 10) 0 || eqb left 0)
   where
     by : (newline : Bool) → sortOf (cond newline 10 32) ≡ Blank
@@ -104,12 +104,12 @@ reads-number (b ∷ bs) rest room read some h most on at =
 -- ---- no byte of a written text belongs to a comment
 
 plain-digits : (bs rest : List ℕ) → Digits bs → uncommented false (bs ++ rest) ≡ bs ++ uncommented false rest
-unfolding uncommented commented
+unfolding uncommented
 plain-digits [] rest h = refl
 plain-digits (b ∷ bs) rest h = rw (ne-eqb b 10 (λ e. omega arith), ne-eqb b 35 (λ e. omega arith)) (ap (_∷_ b) (plain-digits bs rest (h .2)))
 
 plain-ender : (i left : ℕ) (rest : List ℕ) → uncommented false (enderOf i left ∷ rest) ≡ enderOf i left ∷ uncommented false rest
-unfolding enderOf uncommented commented
+unfolding uncommented
 plain-ender i left rest = by (eqb (i % 10) 0 || eqb left 0)
   where
     by : (newline : Bool) → uncommented false (cond newline 10 32 ∷ rest) ≡ cond newline 10 32 ∷ uncommented false rest

@@ -30,7 +30,7 @@ pub record TextCases : Type 0 where
   pub two-lines : textOf (1 ∷ 1 ∷ 1 ∷ 1 ∷ 1 ∷ 1 ∷ 1 ∷ 1 ∷ 1 ∷ 1 ∷ 1 ∷ []) ≡ 49 ∷ 32 ∷ 49 ∷ 32 ∷ 49 ∷ 32 ∷ 49 ∷ 32 ∷ 49 ∷ 32 ∷ 49 ∷ 32 ∷ 49 ∷ 32 ∷ 49 ∷ 32 ∷ 49 ∷ 32 ∷ 49 ∷ 10 ∷ 49 ∷ 10 ∷ []
 
 pub text-cases : TextCases
-unfolding readingOf reading uncommented commented next sortOf blank withWord textOf textFrom enderOf decimal digits
+unfolding readingOf reading uncommented sortOf withWord textOf textFrom decimal digits
 text-cases = record {
   numbers = refl;
   touching = refl;

@@ -10,7 +10,7 @@ use Rattle.text.specs.declared.write.Written.{Written}
 use Rattle.text.specs.declared.write.Written.the-variants.{Text, NoRoom}
 
 -- the blank after a word, given its number, from 1, and how many words are left after it
-unfoldable pub enderOf : ℕ → ℕ → ℕ
+abbrev pub enderOf : ℕ → ℕ → ℕ
 enderOf number left = cond (eqb (number % 10) 0 || eqb left 0) 10 32
 
 -- a word and a blank

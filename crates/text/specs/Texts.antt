@@ -15,7 +15,7 @@ use Rattle.text.specs.declared.reader.Sort.{Sort}
 use Rattle.text.specs.declared.reader.Sort.the-variants.{Blank, Digit, Other}
 
 -- "blanks are space, tab, carriage return and newline"
-unfoldable pub blank : ℕ → Bool
+abbrev pub blank : ℕ → Bool
 blank b = eqb b 32 || eqb b 9 || eqb b 13 || eqb b 10
 
 -- what a byte is between comments; the digits are 48 to 57 in ASCII
@@ -23,7 +23,7 @@ unfoldable pub sortOf : ℕ → Sort
 sortOf b = cond (blank b) Blank (cond (leb 48 b && leb b 57) (Digit (b - 48)) Other)
 
 -- "`#` starts a comment up to the end of its line": whether a byte belongs to a comment, given whether the byte before it does
-unfoldable pub commented : Bool → ℕ → Bool
+abbrev pub commented : Bool → ℕ → Bool
 commented inside b = not (eqb b 10) && (inside || eqb b 35)
 
 -- a text with a space in place of each byte of a comment
@@ -32,7 +32,7 @@ uncommented inside [] = []
 uncommented inside (b ∷ text) = cond (commented inside b) 32 b ∷ uncommented (commented inside b) text
 
 -- the place of the byte after a byte; columns count bytes
-unfoldable pub next : Place → ℕ → Place
+abbrev pub next : Place → ℕ → Place
 next at b = cond (eqb b 10) (record { line = at .line + 1; column = 1 }) (record { line = at .line; column = at .column + 1 })
 
 -- what a text is read as

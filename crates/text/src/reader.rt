@@ -38,13 +38,7 @@ pub struct Reader {
 fn blank(byte: u8) -> bool
     ensures { λ r. ⌜ r ≡ Texts.blank byte ⌝ }
 {
-    if byte == b' ' {
-        return true;
-    }
-    if byte == b'\t' {
-        return true;
-    }
-    byte == b'\r' || byte == b'\n'
+    (byte == b' ') | (byte == b'\t') | (byte == b'\r') | (byte == b'\n')
 }
 
 fn sort_of(byte: u8) -> Sort
@@ -66,10 +60,7 @@ fn sort_of(byte: u8) -> Sort
 fn commented(inside: bool, byte: u8) -> bool
     ensures { λ r. ⌜ r ≡ Texts.commented inside byte ⌝ }
 {
-    if byte == b'\n' {
-        return false;
-    }
-    inside || byte == b'#'
+    (byte != b'\n') & (inside | (byte == b'#'))
 }
 
 // What is read of a byte: of one of a comment, a space.
@@ -79,20 +70,26 @@ fn seen(comment: bool, byte: u8) -> u8
     if comment { b' ' } else { byte }
 }
 
+// The first place, or else the second.
+fn either_place(first: bool, one: Place, two: Place) -> Place
+    ensures { λ r. ⌜ r ≡ cond first one two ⌝ }
+{
+    if first { one } else { two }
+}
+
 fn next_place(at: Place, byte: u8) -> Place
     requires { ⌜ (at .line ≤ 2 ^ 63) × (at .column ≤ 2 ^ 63) ⌝ }
     ensures { λ r. ⌜ r ≡ Texts.next at byte ⌝ }
 {
-    if byte == b'\n' {
-        return Place {
-            line: at.line + 1,
-            column: 1,
-        };
-    }
-    Place {
+    let below = Place {
+        line: at.line + 1,
+        column: 1,
+    };
+    let beside = Place {
         line: at.line,
         column: at.column + 1,
-    }
+    };
+    either_place(byte == b'\n', below, beside)
 }
 
 // The state after a byte that follows a gap.

@@ -1,5 +1,6 @@
 // The text of a list of words.
 ghost use mathlib.Core.Path.{_≡_};
+ghost use mathlib.Core.Bool.{cond};
 ghost use Prim.Native.Nat.{_+_, _≤_};
 ghost use lib.ListN.{length};
 ghost use lib.Seq.{paste};
@@ -32,17 +33,18 @@ pub fn text_of_words(words: &[u16], text: &mut [u8]) -> Written
     Written::Text { count: at }
 }
 
+// A newline, or else a space.
+fn blank_of(newline: bool) -> u8
+    ensures { λ r. ⌜ r ≡ cond newline 10 32 ⌝ }
+{
+    if newline { b'\n' } else { b' ' }
+}
+
 // The blank after a word, given its number, from 1, and how many words are left after it.
 fn ender(number: usize, left: usize) -> u8
     ensures { λ r. ⌜ r ≡ enderOf number left ⌝ }
 {
-    if number % 10 == 0 {
-        return b'\n';
-    }
-    if left == 0 {
-        return b'\n';
-    }
-    b' '
+    blank_of((number % 10 == 0) | (left == 0))
 }
 
 // Puts a word and a blank into `text` from a place on, and answers the place past them.

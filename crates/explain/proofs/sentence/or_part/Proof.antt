@@ -13,22 +13,12 @@ opened-requires c κs = search needs
 returns : tie.Need-returns
 returns c = search needs
 
-referred-requires : tie.Need-referred-requires
-referred-requires c κs = search needs
-
-closed-requires : tie.Need-closed-requires
-closed-requires c κs = search needs
+reference-requires : tie.Need-reference-requires
+reference-requires c κs = search needs
 
 returns-2 : tie.Need-returns-2
-returns-2 c = rw (c .closed .ensures) (follows-then (follows-back (c .before .before .before .before .opened .ensures)) (c .before .referred .ensures))
+returns-2 c = follows-then (follows-back (c .before .before .before .opened .ensures)) (c .reference .ensures)
 
 pub or-part-spec : {M : Type 1} → statement M
 or-part-spec =
-    tie.close
-    (tie.spec
-    slice-aggregate-opened
-    opened-requires
-    returns
-    referred-requires
-    closed-requires
-    returns-2)
+    tie.close (tie.spec slice-aggregate-opened opened-requires returns reference-requires returns-2)
