@@ -32,9 +32,9 @@ use Rattle.truth.specs.declared.pairs.Pair.{Pair}
 use Rattle.truth.proofs.pairs.Pair as T
 use Rattle.truth.proofs.path.Shown as S
 use Rattle.truth.proofs.path.Shown.Laws as S′
-use Rattle.truth.proofs.pairs.FunctionFrames.{turn, local-of, sets, lands-at, leaves}
-use Rattle.truth.proofs.pairs.LentCalls.{taken, made, calls-on}
-use Rattle.truth.proofs.pairs.WalkedFunctions.{Ways, number, shared-slice, given-slice, given-ref, machine, ends, meets-by}
+use Rattle.sheets.proofs.FunctionFrames.{turn, local-of, sets, lands-at, leaves}
+use Rattle.sheets.proofs.LentCalls.{taken, made, calls-on}
+use Rattle.sheets.proofs.WalkedFunctions.{Ways, number, shared-slice, given-slice, given-ref, machine, ends, meets-by}
 use Rattle.truth.proofs.pairs.path as path
 use Rattle.truth.proofs.pairs.path.Symbol as path-def
 use Rattle.truth.proofs.pairs.path.Symbol.{name as #truth·pairs·path}

@@ -47,12 +47,12 @@ use Rattle.truth.proofs.path.Made as D
 use Rattle.truth.proofs.path.Made.Laws as D′
 use Rattle.truth.proofs.path.Shown as S
 use Rattle.truth.proofs.path.Shown.Laws as S′
-use Rattle.truth.proofs.pairs.FunctionFrames.{turn, exchange, restore, local-of, sets, lands-at, leaves}
-use Rattle.truth.proofs.pairs.LentCalls.{taken, made, calls-on}
-use Rattle.truth.proofs.pairs.WalkedFunctions.{Ways, number, shared-slice, given-slice, machine, ends, meets-by}
+use Rattle.sheets.proofs.FunctionFrames.{turn, exchange, restore, local-of, sets, lands-at, leaves}
+use Rattle.sheets.proofs.LentCalls.{taken, made, calls-on}
+use Rattle.sheets.proofs.WalkedFunctions.{Ways, number, shared-slice, given-slice, machine, ends, meets-by}
 use Rattle.truth.proofs.pairs.LentArray.{Lent, lends-array, array-back}
 use Rattle.truth.proofs.pairs.MadeArrays.{array-room, nodes-is, answer-is, states-is, lowered-is, whole-cell, nodes-cell, states-cell, Back, apart, together}
-use Rattle.truth.proofs.pairs.WhileSteps.{big-lit}
+use Rattle.sheets.proofs.WhileSteps.{big-lit}
 use Rattle.truth.proofs.pairs.PairAnswers.{count-fits, pairs-answered}
 use Rattle.truth.proofs.path.make_within as make
 use Rattle.truth.proofs.path.make_within.Symbol as make-def

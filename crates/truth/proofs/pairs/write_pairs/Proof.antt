@@ -49,9 +49,9 @@ use Rattle.truth.specs.PathPairs.{pairNodes, pairStates}
 use Rattle.truth.proofs.pairs.Pair as T
 use Rattle.truth.proofs.pairs.Pair.Laws as T′
 use Rattle.truth.proofs.pairs.FilledPairs.{pair, filled, filled-length, nodes-filled, states-filled}
-use Rattle.truth.proofs.pairs.FunctionFrames.{held, placed, turn, local-of, sets, leaves}
-use Rattle.truth.proofs.pairs.WalkedFunctions.{Ways, number, shared-slice, kept-slice, machine, walk-of, ends, meets-by}
-use Rattle.truth.proofs.pairs.WhileSteps.{whiles}
+use Rattle.sheets.proofs.FunctionFrames.{held, placed, turn, local-of, sets, leaves}
+use Rattle.sheets.proofs.WalkedFunctions.{Ways, number, shared-slice, kept-slice, machine, walk-of, ends, meets-by}
+use Rattle.sheets.proofs.WhileSteps.{whiles}
 use Rattle.truth.proofs.pairs.write_pairs.Key.{name as #truth·pairs·write-pairs}
 use Rattle.truth.proofs.pairs.write_pairs as f
 use Rattle.truth.proofs.pairs.write_pairs.Statement as stated

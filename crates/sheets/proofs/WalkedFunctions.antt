@@ -34,8 +34,8 @@ use denote.Triple.Entry.{Args, Vals, Res}
 use denote.Triple.Spec.{Meets}
 use denote.Triple.Statement.{Contract}
 use denote.Triple.Walked.{Stay, Stays, stay-slice, gave-ref, gave-slice, stay-dropped, hasOf, Fit, onExit, walkOf, ends-at, Goes, goes-slice, goes-gave-ref, goes-gave-slice, goes-dropped, AllGo, walked, walk-meets}
-use Rattle.truth.proofs.pairs.FunctionFrames.{held, placed, Taken, joined, parted, enters}
-use Rattle.truth.proofs.pairs.LentCalls.{tokens, tokens-are, are-tokens}
+use Rattle.sheets.proofs.FunctionFrames.{held, placed, Taken, joined, parted, enters}
+use Rattle.sheets.proofs.LentCalls.{tokens, tokens-are, are-tokens}
 
 module _ {M : Type 1} (𝓤 : URA M) (H : Heap 𝓤) (A : Atoms 𝓤) (W : Given 𝓤 H A) where
   pub record Way {n : ℕ} (s : Slot n) (k : Kept) : Type 2 where

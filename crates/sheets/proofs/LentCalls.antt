@@ -32,7 +32,7 @@ use denote.Triple.End.{Kepts, Fins, lastsOf}
 use denote.Triple.Entry.{Res, alive, onEntry}
 use denote.Triple.Spec.{tripleOf}
 use denote.Triple.Statement.{Contract, Triple}
-use Rattle.truth.proofs.pairs.FunctionFrames.{joined, parted, cut-at}
+use Rattle.sheets.proofs.FunctionFrames.{joined, parted, cut-at}
 
 module _ {M : Type 1} (𝓤 : URA M) (H : Heap 𝓤) (A : Atoms 𝓤) where
   abbrev pub tokens : (n : ℕ) → Lfts n → Shares n → List (Item 𝓤)
