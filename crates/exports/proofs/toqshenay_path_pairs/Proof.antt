@@ -34,7 +34,7 @@ use Rattle.truth.proofs.path.Shown as S
 use Rattle.truth.proofs.path.Shown.Laws as S′
 use Rattle.sheets.proofs.FunctionFrames.{turn, local-of, sets, lands-at, leaves}
 use Rattle.sheets.proofs.LentCalls.{taken, made, calls-on}
-use Rattle.sheets.proofs.WalkedFunctions.{Ways, number, shared-slice, given-slice, given-ref, machine, ends, meets-by}
+use Rattle.sheets.proofs.WalkedFunctions.{Ways, number, shared-slice, given-slice, given-ref, ends, meets-by}
 use Rattle.truth.proofs.pairs.path as path
 use Rattle.truth.proofs.pairs.path.Symbol as path-def
 use Rattle.truth.proofs.pairs.path.Symbol.{name as #truth·pairs·path}
@@ -75,7 +75,7 @@ module _ {M : Type 1} (𝓤 : URA M) (H : Heap 𝓤) (A : Atoms 𝓤) (mem : Mem
 
     path-pairs-meets : (𝓣 : Tables 𝓤 H) → Triple 𝓤 (𝓣 .C #truth·pairs·path) Paths → Triple 𝓤 (𝓣 .C #exports·tell-path) Tell
         → Meets 𝓤 H A f.signature (WpFn 𝓤 H (𝓣 .C) (𝓣 .Λ) code.function) (f.spec 𝓤 H A mem run)
-    path-pairs-meets 𝓣 known-path known-tell = meets-by 𝓤 H A W f.ended ways (f.clauses 𝓤 H A mem run) code.function 𝓣 (λ κs a at t. t)
+    path-pairs-meets 𝓣 known-path known-tell = meets-by 𝓤 H A W f.ended ways (f.clauses 𝓤 H A mem run) code.function 𝓣 (λ κs a at are t. t)
         (λ κs qs bounds a g are at.
         let xm : RefT (List ℕ) = a .0 in
         let xr : RefT (List ℕ) = a .1 .0 in
@@ -122,8 +122,7 @@ module _ {M : Type 1} (𝓤 : URA M) (H : Heap 𝓤) (A : Atoms 𝓤) (mem : Mem
         lands-at ! refl (uint-lawful 𝓤 H A W w16 .typed n _ is-n .0) $
         leaves ! (full _ ∷ full _ ∷ full _ ∷ full _ ∷ full _ ∷ full _ ∷ full _ ∷ full _ ∷ full _ ∷ full _ ∷ full _ ∷ full _ ∷ full _ ∷ full _ ∷ []) $
         -- [the places' tokens; sheet's; length's; back's; the last list; κm; κr; κ; nothing]
-        keep ! (7 ∷ 8 ∷ 9 ∷ 0 ∷ 1 ∷ 2 ∷ 6 ∷ 3 ∷ 4 ∷ 5 ∷ []) $ by ! (ends 𝓤 H A W f.ended ways (f.clauses 𝓤 H A mem run)
-        ((κs, qs, bounds, a, machine 𝓤 H A W f.ended ways (f.clauses 𝓤 H A mem run) κs a), g) u n
+        keep ! (7 ∷ 8 ∷ 9 ∷ 0 ∷ 1 ∷ 2 ∷ 6 ∷ 3 ∷ 4 ∷ 5 ∷ []) $ by ! (ends 𝓤 H A W f.ended ways (f.clauses 𝓤 H A mem run) κs qs bounds a g [] u n
         (tt, (tt, (tt, (tt, (zs .1 .1 .1 .1 .0, (us .1 .0, (us .1 .1 .0, (us .1 .1 .1 .0, tt)))))))) (tt, (tt, (tt, (tt, (size, (tt, (tt, (tt, tt))))))))
         (factI 𝓤 _ (emp 𝓤) (record { answer = r; answered = answered; told = told })) (uint-makes 𝓤 H A W w16 n _ is-n))))))
 

@@ -49,7 +49,7 @@ use Rattle.truth.proofs.path.Shown as S
 use Rattle.truth.proofs.path.Shown.Laws as S′
 use Rattle.sheets.proofs.FunctionFrames.{turn, exchange, restore, local-of, sets, lands-at, leaves}
 use Rattle.sheets.proofs.LentCalls.{taken, made, calls-on}
-use Rattle.sheets.proofs.WalkedFunctions.{Ways, number, shared-slice, given-slice, machine, ends, meets-by}
+use Rattle.sheets.proofs.WalkedFunctions.{Ways, number, shared-slice, given-slice, ends, meets-by}
 use Rattle.truth.proofs.pairs.LentArray.{Lent, lends-array, array-back}
 use Rattle.truth.proofs.pairs.MadeArrays.{array-room, nodes-is, answer-is, states-is, lowered-is, whole-cell, nodes-cell, states-cell, Back, apart, together}
 use Rattle.sheets.proofs.WhileSteps.{big-lit}
@@ -98,7 +98,7 @@ module _ {M : Type 1} (𝓤 : URA M) (H : Heap 𝓤) (A : Atoms 𝓤) (mem : Mem
 
     path-meets : (𝓣 : Tables 𝓤 H) → Triple 𝓤 (𝓣 .C #truth·path·make-within) Make → Triple 𝓤 (𝓣 .C #truth·path·length-of) Count
         → Triple 𝓤 (𝓣 .C #truth·pairs·write-pairs) Write → Meets 𝓤 H A f.signature (WpFn 𝓤 H (𝓣 .C) (𝓣 .Λ) code.function) (f.spec 𝓤 H A mem run)
-    path-meets 𝓣 known-make known-count known-write = meets-by 𝓤 H A W f.ended ways (f.clauses 𝓤 H A mem run) code.function 𝓣 (λ κs a at t. t)
+    path-meets 𝓣 known-make known-count known-write = meets-by 𝓤 H A W f.ended ways (f.clauses 𝓤 H A mem run) code.function 𝓣 (λ κs a at are t. t)
         (λ κs qs bounds a g are at.
         let κ : Lft = κs .1 .1 .0 in
         let x : RefT (List Pair) = a .1 .1 .1 .1 .0 in
@@ -197,8 +197,8 @@ module _ {M : Type 1} (𝓤 : URA M) (H : Heap 𝓤) (A : Atoms 𝓤) (mem : Mem
         move ! (1 ∷ 0 ∷ []) $ join ! $ restore ! 17 (‵ (whole-cell 𝓤 H A r l)) (together 𝓤 H A r l) $ turn ! 5 $
         sets ! (of-opd ! (local-of ! refl)) refl (answer-typed (r .answer) an) $
         leaves ! (full _ ∷ full _ ∷ full _ ∷ full _ ∷ full _ ∷ full _ ∷ full _ ∷ full _ ∷ full _ ∷ full _ ∷ full _ ∷ full _ ∷ full _ ∷ full _ ∷ full _ ∷ full _ ∷ full _ ∷ full _ ∷ []) $
-        keep ! (2 ∷ 3 ∷ 1 ∷ 0 ∷ []) $ by ! (ends 𝓤 H A W f.ended ways (f.clauses 𝓤 H A mem run)
-        ((κs, qs, bounds, a, machine 𝓤 H A W f.ended ways (f.clauses 𝓤 H A mem run) κs a), g) _ (r .answer) (tt, (tt, (tt, (tt, (zs .0, tt))))) (tt, (tt, (tt, (tt, (size, tt)))))
+        keep ! (2 ∷ 3 ∷ 1 ∷ 0 ∷ []) $ by ! (ends 𝓤 H A W f.ended ways (f.clauses 𝓤 H A mem run) κs qs bounds a g [] _ (r .answer)
+        (tt, (tt, (tt, (tt, (zs .0, tt))))) (tt, (tt, (tt, (tt, (size, tt)))))
         (factI 𝓤 _ (emp 𝓤) (pairs-answered (a .0 .now) (a .1 .0 .now) (a .1 .1 .0) (a .1 .1 .1 .0) ys (r .nodes) (r .states) n (r .answer) made-for counted (ns .1 .0 .1) (ss .1 .0 .1)
         (zs .0) (written .0) (written .1))) (EL.makes S.the-type S′.the-plain 𝓤 H A (r .answer) _ an)))))))))))
       where

@@ -50,7 +50,7 @@ use Rattle.truth.proofs.pairs.Pair as T
 use Rattle.truth.proofs.pairs.Pair.Laws as T′
 use Rattle.truth.proofs.pairs.FilledPairs.{pair, filled, filled-length, nodes-filled, states-filled}
 use Rattle.sheets.proofs.FunctionFrames.{held, placed, turn, local-of, sets, leaves}
-use Rattle.sheets.proofs.WalkedFunctions.{Ways, number, shared-slice, kept-slice, machine, walk-of, ends, meets-by}
+use Rattle.sheets.proofs.WalkedFunctions.{Ways, number, shared-slice, kept-slice, machine, Ends, ends, meets-by}
 use Rattle.sheets.proofs.WhileSteps.{whiles}
 use Rattle.truth.proofs.pairs.write_pairs.Key.{name as #truth·pairs·write-pairs}
 use Rattle.truth.proofs.pairs.write_pairs as f
@@ -143,7 +143,7 @@ module _ {M : Type 1} (𝓤 : URA M) (H : Heap 𝓤) (A : Atoms 𝓤) (mem : Mem
     E = placed 𝓤 H (code.function .locals) at
 
     abbrev Post : Val → SProp 𝓤
-    Post = walk-of 𝓤 H A W f.ended ways (f.clauses 𝓤 H A mem run) .post ((κs, ps, tt, a, machine 𝓤 H A W f.ended ways (f.clauses 𝓤 H A mem run) κs a), tt)
+    Post = Ends 𝓤 H A W f.ended ways (f.clauses 𝓤 H A mem run) κs ps tt a tt
 
     module _ (qn qs : Share) where
       -- the invariant: the locals, behind them (32) the three rows, and what closes the borrows: the list's (35, 36, 37), the nodes' (38), the
@@ -214,8 +214,8 @@ module _ {M : Type 1} (𝓤 : URA M) (H : Heap 𝓤) (A : Atoms 𝓤) (mem : Mem
           move ! (3 ∷ 2 ∷ 1 ∷ 0 ∷ []) $ turn ! 4 $
           sets ! (of-opd ! (unit-lit !)) refl (tt, tt) $
           leaves ! (full _ ∷ full _ ∷ full _ ∷ full _ ∷ full _ ∷ empty ∷ empty ∷ full _ ∷ []) $
-          by ! (ends 𝓤 H A W f.ended ways (f.clauses 𝓤 H A mem run) ((κs, ps, tt, a, machine 𝓤 H A W f.ended ways (f.clauses 𝓤 H A mem run) κs a), tt)
-          vunit tt (filled (i .0) ns ss ys, (tt, (tt, (tt, tt)))) (filled-length (i .0) ns ss ys, (tt, (tt, (tt, tt))))
+          by ! (ends 𝓤 H A W f.ended ways (f.clauses 𝓤 H A mem run) κs ps tt a tt [] vunit tt
+          (filled (i .0) ns ss ys, (tt, (tt, (tt, tt)))) (filled-length (i .0) ns ss ys, (tt, (tt, (tt, tt))))
           (factI 𝓤 _ (emp 𝓤) (
             ap (λ (k : ℕ). pairNodes (filled k ns ss ys)) (ended i over) ∙ nodes-filled n ns ss ys (fits .1 .0) (fits .1 .1) (fits .0),
             ap (λ (k : ℕ). pairStates (filled k ns ss ys)) (ended i over) ∙ states-filled n ns ss ys (fits .1 .0) (fits .1 .1) (fits .0),
@@ -226,7 +226,7 @@ module _ {M : Type 1} (𝓤 : URA M) (H : Heap 𝓤) (A : Atoms 𝓤) (mem : Mem
           p i = pair (getD ns (i .0) 0) (getD ss (i .0) 0)
 
   write-pairs-meets : (𝓣 : Tables 𝓤 H) → Meets 𝓤 H A f.signature (WpFn 𝓤 H (𝓣 .C) (𝓣 .Λ) code.function) (f.spec 𝓤 H A mem run)
-  write-pairs-meets 𝓣 = meets-by 𝓤 H A W f.ended ways (f.clauses 𝓤 H A mem run) code.function 𝓣 (λ κs a at t. t)
+  write-pairs-meets 𝓣 = meets-by 𝓤 H A W f.ended ways (f.clauses 𝓤 H A mem run) code.function 𝓣 (λ κs a at are t. t)
       (λ κs ps bounds a g are at.
       sets ! (of-opd ! (lit ! tt)) refl (tt, record { fits = lit< tt }) $
       -- [the locals; behind them (32) the tokens; what the slices own; what is required]: the slices' borrows are taken out
