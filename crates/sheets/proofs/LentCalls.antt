@@ -19,7 +19,7 @@ use prog.Wp.{Heap, Env, Calls, Loops, evalOpds}
 use ghost.Atoms.{Atoms, sem}
 use contract.Lifetimes.{Lfts, Shares, toks}
 use contract.Monad.{fact}
-use types.Kit.{Goal, Soaks, Given, Item, ‵, raw, _⊛_, some, later, ⋆, push, pop, Post, runs, lands, settles, aim, Seq, _$_, by, move, use1, split, pick, await}
+use types.Kit.{Goal, Soaks, Given, Item, ‵, raw, _⊛_, some, later, ⋆, push, pop, ++⊢, ⊢++, Post, runs, lands, settles, aim, Seq, _$_, by, move, use1, split, pick, await}
 use types.Run.{Opds}
 use sound.WpLaws.{FmC}
 use denote.RattleType.{RattleType, Denots, Valss, owns}
@@ -33,7 +33,7 @@ use denote.Triple.End.{Kepts, Fins, lastsOf}
 use denote.Triple.Entry.{Res, alive, onEntry}
 use denote.Triple.Spec.{tripleOf}
 use denote.Triple.Statement.{Contract, Triple}
-use Rattle.sheets.proofs.FunctionFrames.{joined, parted, cut-at}
+use Rattle.sheets.proofs.FunctionFrames.{cut-at}
 
 module _ {M : Type 1} (𝓤 : URA M) (H : Heap 𝓤) (A : Atoms 𝓤) where
   abbrev pub tokens : (n : ℕ) → Lfts n → Shares n → List (Item 𝓤)
@@ -125,7 +125,7 @@ module _ {M : Type 1} (𝓤 : URA M) (H : Heap 𝓤) (A : Atoms 𝓤) (W : Given
   asks : ent 𝓤 (emp 𝓤) (c (x .0) (x .3) .requires g) → (Γ : List (Item 𝓤)) → ent 𝓤 (⋆ 𝓤 H A (lent ++ (handed ++ Γ))) (sep 𝓤 (called .pre (x, g)) (⋆ 𝓤 H A Γ))
   asks asked Γ =
       let P : SProp 𝓤 = onEntry 𝓤 H A (T .signature) (x .0) (x .1) (x .3) (x .4) in
-      via 𝓤 _ (parted 𝓤 H A lent (handed ++ Γ)) (via 𝓤 _ (monoR 𝓤 (⋆ 𝓤 H A lent) (parted 𝓤 H A handed Γ))
+      via 𝓤 _ (⊢++ 𝓤 H A lent (handed ++ Γ)) (via 𝓤 _ (monoR 𝓤 (⋆ 𝓤 H A lent) (⊢++ 𝓤 H A handed Γ))
       (via 𝓤 _ (assoc′ 𝓤 (⋆ 𝓤 H A lent) (⋆ 𝓤 H A handed) (⋆ 𝓤 H A Γ)) (monoL 𝓤 (⋆ 𝓤 H A Γ)
       (via 𝓤 _ (mono∗ 𝓤 (tokens-are 𝓤 H A (T .signature .lifetimes) (x .0) (x .1)) (given-up-owns 𝓤 H A (typesAt (T .signature .params) (x .0)) (x .3) (x .4) hs))
       (via 𝓤 _ (emp∗ 𝓤 P) (via 𝓤 _ (comm∗ 𝓤 (emp 𝓤) P) (monoR 𝓤 P asked)))))))
@@ -143,8 +143,8 @@ module _ {M : Type 1} (𝓤 : URA M) (H : Heap 𝓤) (A : Atoms 𝓤) (W : Given
       move t (1 ∷ []) $ split t $ move t (1 ∷ []) $ facts t R (Is R) (shows 𝓤 H A R) r (w ∷ []) (λ is.
       move t (2 ∷ 0 ∷ 1 ∷ []) $ by t (via 𝓤 _ (monoR 𝓤 (⋆ 𝓤 H A Δ)
       (via 𝓤 _ (mono∗ 𝓤 (are-tokens 𝓤 H A (T .signature .lifetimes) (x .0) (x .1))
-      (via 𝓤 _ (monoL 𝓤 (⋆ 𝓤 H A Γ) (lasts-said 𝓤 H A (x .0) (T .signature .params) (T .kept) (x .3) zs)) (joined 𝓤 H A (lasting zs) Γ)))
-      (joined 𝓤 H A lent (lasting zs ++ Γ)))) (via 𝓤 _ (joined 𝓤 H A Δ (lent ++ (lasting zs ++ Γ))) (k r zs said is .prf)))))))
+      (via 𝓤 _ (monoL 𝓤 (⋆ 𝓤 H A Γ) (lasts-said 𝓤 H A (x .0) (T .signature .params) (T .kept) (x .3) zs)) (++⊢ 𝓤 H A (lasting zs) Γ)))
+      (++⊢ 𝓤 H A lent (lasting zs ++ Γ)))) (via 𝓤 _ (++⊢ 𝓤 H A Δ (lent ++ (lasting zs ++ Γ))) (k r zs said is .prf)))))))
 
 module _ {M : Type 1} (𝓤 : URA M) (H : Heap 𝓤) (A : Atoms 𝓤) (K : Type 0) (W : Given 𝓤 H A) (Φ : List (Item 𝓤)) (E : Env 𝓤 H) (C : Calls 𝓤 H) (f : Name) (xs : List Operand) where
   -- what a call takes, to show Z: `after w` is what is to be shown once it has returned w

@@ -20,7 +20,7 @@ use base.Fml.{Fml}
 use prog.Wp.{Heap, WpFn, Tables}
 use ghost.Atoms.{Atoms, sem}
 use contract.Lifetimes.{Lfts, Shares, AllOutlive}
-use types.Kit.{Given, Item, ‵, raw, ⋆, push, Sq, runs, atRet, ! }
+use types.Kit.{Given, Item, ‵, raw, ⋆, push, ++⊢, ⊢++, Sq, runs, atRet, ! }
 use sound.WpLaws.{WpFn-mono}
 use denote.RattleType.{RattleType, Denots, Valss, mirs, flat, owns}
 use denote.Laws.{Is, Ises, Are, Typed, Tells, Spells, valss, Tellss, Lawful, Lawfuls, all-typed}
@@ -34,7 +34,7 @@ use denote.Triple.End.{Kepts, Fins}
 use denote.Triple.Entry.{Args, Vals, Res}
 use denote.Triple.Spec.{Meets}
 use denote.Triple.Walked.{Stay, Stays, stay-ref, stay-slice, gave-ref, gave-slice, stay-dropped, hasOf, Fit, onExit, walkOf, ends-at, Goes, goes-ref, goes-slice, goes-gave-ref, goes-gave-slice, Silent, goes-dropped, AllGo, walked, walk-meets}
-use Rattle.sheets.proofs.FunctionFrames.{held, placed, Taken, joined, parted, enters}
+use Rattle.sheets.proofs.FunctionFrames.{held, placed, Taken, enters}
 use Rattle.sheets.proofs.LentCalls.{tokens, tokens-are, are-tokens}
 
 module _ {M : Type 1} (𝓤 : URA M) (H : Heap 𝓤) (A : Atoms 𝓤) (W : Given 𝓤 H A) where
@@ -168,7 +168,7 @@ module _ {M : Type 1} (𝓤 : URA M) (H : Heap 𝓤) (A : Atoms 𝓤) (W : Given
           → ent 𝓤 (⋆ 𝓤 H A (on-exit ss ks ws a zs vss)) (sem 𝓤 H A (hasOf κs ss ks (stays ss ks ws) a zs vss))
       exit-has [] ks ws a zs vss = id⊢ 𝓤 (emp 𝓤)
       exit-has (s ∷ ss) ks ws a zs vss =
-          via 𝓤 _ (parted 𝓤 H A (ws .0 .after κs (a .0) (zs .0) (vss .0)) (on-exit ss (ks .1) (ws .1) (a .1) (zs .1) (vss .1)))
+          via 𝓤 _ (⊢++ 𝓤 H A (ws .0 .after κs (a .0) (zs .0) (vss .0)) (on-exit ss (ks .1) (ws .1) (a .1) (zs .1) (vss .1)))
           (mono∗ 𝓤 (ws .0 .after-has κs (a .0) (zs .0) (vss .0)) (exit-has ss (ks .1) (ws .1) (a .1) (zs .1) (vss .1)))
 
   module _ (T : Ended) (ws : Ways (T .signature .params) (T .kept)) (c : Clauses 𝓤 T) where
@@ -191,9 +191,9 @@ module _ {M : Type 1} (𝓤 : URA M) (H : Heap 𝓤) (A : Atoms 𝓤) (W : Given
       ends Δ v r zs fits said owned =
           let P : SProp 𝓤 = onExit 𝓤 H A T (stays (T .signature .params) (T .kept) ws) κs qs (machine κs a) v r a zs in
           let had : List (Item 𝓤) = on-exit κs (T .signature .params) (T .kept) ws a zs (machine κs a) in
-          via 𝓤 _ (parted 𝓤 H A (tokens 𝓤 H A n κs qs) (had ++ Δ))
+          via 𝓤 _ (⊢++ 𝓤 H A (tokens 𝓤 H A n κs qs) (had ++ Δ))
           (via 𝓤 P (mono∗ 𝓤 (tokens-are 𝓤 H A n κs qs)
-          (via 𝓤 _ (parted 𝓤 H A had Δ) (mono∗ 𝓤 (exit-has κs (T .signature .params) (T .kept) ws a zs (machine κs a)) owned)))
+          (via 𝓤 _ (⊢++ 𝓤 H A had Δ) (mono∗ 𝓤 (exit-has κs (T .signature .params) (T .kept) ws a zs (machine κs a)) owned)))
           (via 𝓤 _ (via 𝓤 _ (emp∗ 𝓤 P) (via 𝓤 _ (comm∗ 𝓤 (emp 𝓤) P) (monoR 𝓤 P said)))
           (ends-at 𝓤 H A T (stays (T .signature .params) (T .kept) ws) c W ((κs, qs, bounds, a, machine κs a), g) v r zs fits)))
 
@@ -218,7 +218,7 @@ module _ {M : Type 1} (𝓤 : URA M) (H : Heap 𝓤) (A : Atoms 𝓤) (W : Given
         via 𝓤 (⋆ 𝓤 H A (toks ++ (entry ++ (raw R ∷ []))))
         (via 𝓤 _ (monoL 𝓤 R (mono∗ 𝓤 (are-tokens 𝓤 H A n κs qs) (has-entry κs (T .signature .params) (T .kept) ws a (machine κs a))))
         (via 𝓤 _ (assoc∗ 𝓤 (⋆ 𝓤 H A toks) (⋆ 𝓤 H A entry) R)
-        (via 𝓤 _ (monoR 𝓤 (⋆ 𝓤 H A toks) (joined 𝓤 H A entry (raw R ∷ []))) (joined 𝓤 H A toks (entry ++ (raw R ∷ []))))))
+        (via 𝓤 _ (monoR 𝓤 (⋆ 𝓤 H A toks) (++⊢ 𝓤 H A entry (raw R ∷ []))) (++⊢ 𝓤 H A toks (entry ++ (raw R ∷ []))))))
         (enters {W = W} ! (𝓣 .C) (𝓣 .Λ) f (passed κs a) (Ends κs qs bounds a g) {Γ = toks ++ (entry ++ (raw R ∷ []))}
         (λ at. suits κs a at are (all-typed 𝓤 H A (typesAt (T .signature .params) κs) (all-lawful κs (T .signature .params) (T .kept) ws) a (machine κs a) are))
         (k κs qs bounds a g are) .prf)))
