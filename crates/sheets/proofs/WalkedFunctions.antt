@@ -5,6 +5,7 @@
 --     kept-slice, kept-ref     a `&mut [T]` or a `&mut T` that the function still owns at exit.        given-slice, given-ref    one that it gives up for good
 --     meets-by             the function meets its contract. The walk starts with the locals (`FunctionFrames`), and behind them the tokens, what
 --                          the parameters own where it is used, and what the contract requires
+--     Known, Walk          what is known of the arguments on entry, and the walk, at one choice of them
 --     ends Δ               how the walk ends: with the tokens, what is had of the parameters, and Δ, which is what the result owns
 -- Assumes `Given`.
 use Prim.Native.Nat.{ℕ}
@@ -181,6 +182,10 @@ module _ {M : Type 1} (𝓤 : URA M) (H : Heap 𝓤) (A : Atoms 𝓤) (W : Given
     abbrev pub passed : (κs : Lfts n) → Args (T .signature) κs → List Val
     passed κs a = flat (typesAt (T .signature .params) κs) (machine κs a)
 
+    -- what is known of the arguments on entry
+    abbrev pub Known : (κs : Lfts n) → Args (T .signature) κs → Type 0
+    Known κs a = Are (typesAt (T .signature .params) κs) (Ises (typesAt (T .signature .params) κs)) a (machine κs a)
+
     module _ (κs : Lfts n) (qs : Shares n) (bounds : AllOutlive n (T .signature .outlives) κs) (a : Args (T .signature) κs) (g : c κs a .ghost) where
       abbrev pub Ends : Val → SProp 𝓤
       Ends = walkOf 𝓤 H A T (stays (T .signature .params) (T .kept) ws) c .post ((κs, qs, bounds, a, machine κs a), g)
@@ -197,14 +202,16 @@ module _ {M : Type 1} (𝓤 : URA M) (H : Heap 𝓤) (A : Atoms 𝓤) (W : Given
           (via 𝓤 _ (via 𝓤 _ (emp∗ 𝓤 P) (via 𝓤 _ (comm∗ 𝓤 (emp 𝓤) P) (monoR 𝓤 P said)))
           (ends-at 𝓤 H A T (stays (T .signature .params) (T .kept) ws) c W ((κs, qs, bounds, a, machine κs a), g) v r zs fits)))
 
+      abbrev pub Walk : Fn → Tables 𝓤 H → (ℕ → ℕ) → Type 1
+      Walk f 𝓣 at = Sq W (held 𝓤 H (placed 𝓤 H (f .locals) at) (empty ∷ map full (passed κs a))
+          ++ (tokens 𝓤 H A n κs qs ++ (on-entry κs (T .signature .params) (T .kept) ws a (machine κs a) ++ (raw (c κs a .requires g) ∷ []))))
+          (runs (𝓣 .C) (𝓣 .Λ) (placed 𝓤 H (f .locals) at) (f .body) (atRet (placed 𝓤 H (f .locals) at) Ends))
+
     pub meets-by : (f : Fn) (𝓣 : Tables 𝓤 H)
-        → ((κs : Lfts n) (a : Args (T .signature) κs) (at : ℕ → ℕ) → Are (typesAt (T .signature .params) κs) (Ises (typesAt (T .signature .params) κs)) a (machine κs a)
-        → Typed (mirs (typesAt (T .signature .params) κs)) (passed κs a) → Taken (placed 𝓤 H (f .locals) at) (passed κs a))
-        → ((κs : Lfts n) (qs : Shares n) (bounds : AllOutlive n (T .signature .outlives) κs) (a : Args (T .signature) κs) (g : c κs a .ghost)
-        → Are (typesAt (T .signature .params) κs) (Ises (typesAt (T .signature .params) κs)) a (machine κs a) → (at : ℕ → ℕ)
-        → Sq W (held 𝓤 H (placed 𝓤 H (f .locals) at) (empty ∷ map full (passed κs a)) ++ (tokens 𝓤 H A n κs qs
-        ++ (on-entry κs (T .signature .params) (T .kept) ws a (machine κs a) ++ (raw (c κs a .requires g) ∷ []))))
-        (runs (𝓣 .C) (𝓣 .Λ) (placed 𝓤 H (f .locals) at) (f .body) (atRet (placed 𝓤 H (f .locals) at) (Ends κs qs bounds a g))))
+        → ((κs : Lfts n) (a : Args (T .signature) κs) (at : ℕ → ℕ) → Known κs a → Typed (mirs (typesAt (T .signature .params) κs)) (passed κs a)
+        → Taken (placed 𝓤 H (f .locals) at) (passed κs a))
+        → ((κs : Lfts n) (qs : Shares n) (bounds : AllOutlive n (T .signature .outlives) κs) (a : Args (T .signature) κs) (g : c κs a .ghost) → Known κs a
+        → (at : ℕ → ℕ) → Walk κs qs bounds a g f 𝓣 at)
         → Meets 𝓤 H A (T .signature) (WpFn 𝓤 H (𝓣 .C) (𝓣 .Λ) f) (closing 𝓤 H A T c)
     meets-by f 𝓣 suits k =
         walk-meets 𝓤 H A T (stays (T .signature .params) (T .kept) ws) W (all-go (T .signature .params) (T .kept) ws) c

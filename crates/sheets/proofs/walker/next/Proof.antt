@@ -46,11 +46,9 @@ use Rattle.sheets.proofs.LentCalls.{taken, made, calls-on}
 use Rattle.sheets.proofs.WalkedFunctions.{Ways, kept-ref, ends, meets-by}
 use Rattle.sheets.proofs.WalkerWords.{Words, Walks, words-twice, from-words, words-of}
 use Rattle.sheets.proofs.walker.step_at as step-at
-use Rattle.sheets.proofs.walker.step_at.Symbol as step-def
 use Rattle.sheets.proofs.walker.step_at.Symbol.{name as #sheets·walker·step-at}
 use Rattle.sheets.proofs.walker.step_at.Met as step-thm
 use Rattle.sheets.proofs.walker.after_step as after
-use Rattle.sheets.proofs.walker.after_step.Symbol as after-def
 use Rattle.sheets.proofs.walker.after_step.Symbol.{name as #sheets·walker·after-step}
 use Rattle.sheets.proofs.walker.after_step.Met as after-thm
 use Rattle.sheets.proofs.walker.next.Key.{name as #sheets·walker·next}
@@ -132,8 +130,7 @@ module _ {M : Type 1} (𝓤 : URA M) (H : Heap 𝓤) (A : Atoms 𝓤) (mem : Mem
 pub next-spec : {M : Type 1} → stated.statement M
 unfolding code.routine tablesOf
 next-spec 𝓤 H 𝓜 𝓖 𝓡 =
-    entered 𝓤 H (tripleOf 𝓤 H (𝓖 .A) f.signature (f.spec 𝓤 H (𝓖 .A) (𝓜 .mem) (𝓡 .run)))
-    (tables 𝓤 H 𝓜 𝓡 code.env .C) (tables 𝓤 H 𝓜 𝓡 code.env .Λ) #sheets·walker·next code.function (code.unfolded 𝓤 H 𝓜 𝓡)
+    entered 𝓤 H _ _ _ #sheets·walker·next _ (code.unfolded 𝓤 H 𝓜 𝓡)
     (next-meets 𝓤 H (𝓖 .A) (𝓜 .mem) (𝓡 .run) (givenOf 𝓤 H 𝓜 𝓖) (tablesOf 𝓤 H 𝓜 (tables 𝓤 H 𝓜 𝓡 code.env))
-    (cited 𝓤 H (StepAt 𝓤 H (𝓖 .A) (𝓜 .mem) (𝓡 .run)) 𝓜 𝓡 code.env #sheets·walker·step-at step-def.routine code.calls-sheets·walker·step-at (step-thm.met 𝓤 H 𝓜 𝓖 𝓡))
-    (cited 𝓤 H (After 𝓤 H (𝓖 .A) (𝓜 .mem) (𝓡 .run)) 𝓜 𝓡 code.env #sheets·walker·after-step after-def.routine code.calls-sheets·walker·after-step (after-thm.met 𝓤 H 𝓜 𝓖 𝓡)))
+    (cited 𝓤 H _ 𝓜 𝓡 code.env #sheets·walker·step-at _ code.calls-sheets·walker·step-at (step-thm.met 𝓤 H 𝓜 𝓖 𝓡))
+    (cited 𝓤 H _ 𝓜 𝓡 code.env #sheets·walker·after-step _ code.calls-sheets·walker·after-step (after-thm.met 𝓤 H 𝓜 𝓖 𝓡)))
