@@ -31,8 +31,7 @@ use denote.Steps.{only, opens, closes, peeks}
 use denote.Enum.Laws as EL
 use denote.Struct.Laws as LL
 use denote.Struct.Steps.{spelt}
-use denote.Triple.Statement.{Contract, Triple}
-use denote.Triple.Spec.{Meets, tripleOf}
+use denote.Triple.Spec.{Meets}
 use denote.Triple.Table.{entered, cited}
 use Rattle.sheets.specs.Records.{recordWord, stepAt}
 use Rattle.sheets.specs.inner.Walkers.{afterStep, movedTo}
@@ -56,76 +55,69 @@ use Rattle.sheets.proofs.walker.next as f
 use Rattle.sheets.proofs.walker.next.Statement as stated
 use Rattle.sheets.proofs.walker.next.Code as code
 
-module _ {M : Type 1} (𝓤 : URA M) (H : Heap 𝓤) (A : Atoms 𝓤) (mem : Memory → SProp 𝓤) (run : Routine → Fun 𝓤) where
-  -- the contracts that the proof cites
-  abbrev StepAt : Contract 𝓤
-  StepAt = tripleOf 𝓤 H A step-at.signature (step-at.spec 𝓤 H A mem run)
+module _ {M : Type 1} (𝓤 : URA M) (H : Heap 𝓤) (A : Atoms 𝓤) (mem : Memory → SProp 𝓤) (run : Routine → Fun 𝓤) (W : Given 𝓤 H A) where
+  abbrev ways : Ways 𝓤 H A W (f.ended .signature .params) (f.ended .kept)
+  ways = (kept-ref 𝓤 H A W 2 0 tt (λ κs. T.the-row (namedLft 2 1 tt κs)), tt)
 
-  abbrev After : Contract 𝓤
-  After = tripleOf 𝓤 H A after.signature (after.spec 𝓤 H A mem run)
-
-  module _ (W : Given 𝓤 H A) where
-    abbrev ways : Ways 𝓤 H A W (f.ended .signature .params) (f.ended .kept)
-    ways = (kept-ref 𝓤 H A W 2 0 tt (λ κs. T.the-row (namedLft 2 1 tt κs)), tt)
-
-    next-meets : (𝓣 : Tables 𝓤 H) → Triple 𝓤 (𝓣 .C #sheets·walker·step-at) StepAt → Triple 𝓤 (𝓣 .C #sheets·walker·after-step) After
-        → Meets 𝓤 H A f.signature (WpFn 𝓤 H (𝓣 .C) (𝓣 .Λ) code.function) (f.spec 𝓤 H A mem run)
-    next-meets 𝓣 known-step known-after = meets-by 𝓤 H A W f.ended ways (f.clauses 𝓤 H A mem run) code.function 𝓣 (λ κs a at are t. t)
-        (λ κs qs bounds a g are at.
-        let α : NamedLft = namedLft 2 1 tt κs in
-        let B : RattleType = T.the-row α in
-        let h : Walker = a .0 .now in
-        let b : ℕ = a .0 .ptr .0 in
-        let o : ℕ = a .0 .ptr .1 in
-        -- [the locals; behind them (14) 's's token; 'a's; the `&mut`; nothing]: the borrow is opened
-        turn ! 14 $ move ! (2 ∷ []) $ fsplit3 ! $ drop ! $
-        opens ! tt B {h = h} b o (λ vs.
-        spelt ! B (Is B) (shows 𝓤 H A B) (LL.vals (T.the-type α) (T′.the-laws α)) (LL.tells (T.the-type α) (T′.the-laws α)) fullShare h vs b o $
-        use1 W (‵ (fat fullShare (T′.mir erased) b o (T′.lowered h))) (W .laws .raw-at fullShare (T′.mir erased) b o (T′.lowered h)) $
-        move ! (1 ∷ []) $ peeks ! B (Is B) (shows 𝓤 H A B) h (T′.lowered h ∷ []) (λ was.
-        let fields = LL.owed (T.the-type α) (T′.the-laws α) h _ was in
-        let base-is = fields .1 .0 in
-        let width-is = fields .1 .1 .0 in
-        let at-is = fields .1 .1 .1 .0 in
-        -- [what the walker owns; its cell; the open borrow; obs; auth; 'a's token; nothing; the locals]
-        use1 W (‵ (Words α (h .words))) (words-of α 𝓤 H A W h) $
-        use1 W (‵ (Words α (h .words)) ⊛ ‵ (Words α (h .words))) (words-twice α 𝓤 H A W (h .words)) $ split ! $
-        move ! (6 ∷ 0 ∷ 2 ∷ []) $ turn ! 8 $
-        -- [the locals; 'a's token (14); the words'; the cell (16); the words'; the open borrow; obs; auth; nothing]
-        sets ! (of-opd ! (load ! (from ! (hop ! (look ! 2 refl) (fld ! refl (stop !)))) (look-in ! 16 (sub ! 0 refl (whole !))))) refl
-        (tt, (tt, (record { fits = fields .0 .0 .1 .0 }, tt))) $
-        sets ! (of-opd ! (load ! (from ! (hop ! (look ! 2 refl) (fld ! refl (stop !)))) (look-in ! 16 (sub ! 1 refl (whole !))))) refl (tt, record { fits = base-is .1 }) $
-        sets ! (of-opd ! (load ! (from ! (hop ! (look ! 2 refl) (fld ! refl (stop !)))) (look-in ! 16 (sub ! 2 refl (whole !))))) refl (tt, record { fits = width-is .1 }) $
-        sets ! (of-opd ! (load ! (from ! (hop ! (look ! 2 refl) (fld ! refl (stop !)))) (look-in ! 16 (sub ! 3 refl (whole !))))) refl (tt, record { fits = at-is .1 }) $
-        calls-on ! (fmOf 𝓤 H (W .laws) 𝓣) 14 step-at.ended (step-at.clauses 𝓤 H A mem run) known-step (
-          (κs .1 .0, tt),
-          (qs .1 .0, tt),
-          tt,
-          (h .words, (h .base, (h .width, (h .at, tt)))),
-          (slice-vals (h .words), (vint w32 (h .base) ∷ [], (vint w16 (h .width) ∷ [], (vint w16 (h .at) ∷ [], tt)))),
-        ) tt
-        (taken, (made (uint-makes 𝓤 H A W w32 _ _ base-is), (made (uint-makes 𝓤 H A W w16 _ _ width-is), (made (uint-makes 𝓤 H A W w16 _ _ at-is), tt)))) (id⊢ 𝓤 (emp 𝓤))
-        (λ r _. r ≡ stepAt (recordWord (h .words .now) (h .base) (h .width)) (h .width) (h .at)) (λ r _. id⊢ 𝓤 _) refl
-        (and-then ! (local-of ! refl) (and-then ! (local-of ! refl) (and-then ! (local-of ! refl) (and-then ! (local-of ! refl) (no-more !))))) (λ u r _ found is-r.
-        lands-at ! refl (EL.lawful S.the-type S′.the-laws 𝓤 H A W tt .typed r _ is-r .0) $
-        -- [the locals; 'a's token (14); the cell (15); the words'; the open borrow; obs; auth; nothing]
-        calls-on ! (fmOf 𝓤 H (W .laws) 𝓣) 14 after.ended (after.clauses 𝓤 H A mem run) known-after (tt, tt, tt, (r, tt), (u ∷ [], tt)) tt
-        (made (EL.makes S.the-type S′.the-plain 𝓤 H A r _ is-r), tt) (id⊢ 𝓤 (emp 𝓤)) (λ k _. k ≡ afterStep r) (λ k _. id⊢ 𝓤 _) refl
-        (and-then ! (local-of ! refl) (no-more !)) (λ v k _ goes is-k.
-        let moved : Walker = movedTo h k in
-        land ! (from ! (stop !)) (store ! 10 refl (uint-lawful 𝓤 H A W w16 .typed k _ is-k .0)) $
-        rewrite ! 10 (λ (z : Val). ‵ (fat fullShare (tyInt w16) (at 5) 0 z)) (ap only (is-k .0)) refl $
-        assigns ! (of-opd ! (local-of ! refl)) (from ! (hop ! (look ! 2 refl) (fld ! refl (stop !)))) (store-in ! 15 (sub ! 3 refl (whole !)) (tt, record { fits = is-k .1 })) $
-        sets ! (of-opd ! (local-of ! refl)) refl (EL.lawful S.the-type S′.the-laws 𝓤 H A W tt .typed r _ is-r .0) $
-        -- the borrow is closed at the walker with the new number
-        turn ! 14 $ move ! (1 ∷ []) $
-        use1 W (‵ (cellAt fullShare (B .mir) (T′.lowered moved ∷ []) b o)) (W .laws .at-raw fullShare (T′.mir erased) b o (T′.lowered moved)) $
-        move ! (2 ∷ []) $ use1 W (‵ (Walks α moved)) (from-words α 𝓤 H A W moved (base-is .1) (width-is .1) (is-k .1)) $
-        move ! (1 ∷ 0 ∷ 3 ∷ 4 ∷ 5 ∷ []) $ closes ! tt B moved (T′.lowered moved ∷ []) b o $
-        feqI ! (List Val) (vptr b o ∷ []) (vptr b o ∷ []) refl $ fjoin3 ! $ move ! (1 ∷ 2 ∷ 0 ∷ []) $ turn ! 4 $
-        leaves ! (full _ ∷ full _ ∷ full _ ∷ full _ ∷ full _ ∷ full _ ∷ []) $
-        keep ! (0 ∷ 1 ∷ 2 ∷ []) $ by ! (ends 𝓤 H A W f.ended ways (f.clauses 𝓤 H A mem run) κs qs bounds a g [] u r (moved, tt) (tt, tt)
-        (factI 𝓤 _ (emp 𝓤) (found, ap (movedTo h) goes)) (EL.makes S.the-type S′.the-plain 𝓤 H A r _ is-r)))))))
+  next-meets : (𝓣 : Tables 𝓤 H) → Meets 𝓤 H A step-at.signature (𝓣 .C #sheets·walker·step-at) (step-at.spec 𝓤 H A mem run)
+      → Meets 𝓤 H A after.signature (𝓣 .C #sheets·walker·after-step) (after.spec 𝓤 H A mem run)
+      → Meets 𝓤 H A f.signature (WpFn 𝓤 H (𝓣 .C) (𝓣 .Λ) code.function) (f.spec 𝓤 H A mem run)
+  next-meets 𝓣 known-step known-after = meets-by 𝓤 H A W f.ended ways (f.clauses 𝓤 H A mem run) code.function 𝓣 (λ κs a at are t. t)
+      (λ κs qs bounds a g are at.
+      let α : NamedLft = namedLft 2 1 tt κs in
+      let B : RattleType = T.the-row α in
+      let h : Walker = a .0 .now in
+      let b : ℕ = a .0 .ptr .0 in
+      let o : ℕ = a .0 .ptr .1 in
+      -- [the locals; behind them (14) 's's token; 'a's; the `&mut`; nothing]: the borrow is opened
+      turn ! 14 $ move ! (2 ∷ []) $ fsplit3 ! $ drop ! $
+      opens ! tt B {h = h} b o (λ vs.
+      spelt ! B (Is B) (shows 𝓤 H A B) (LL.vals (T.the-type α) (T′.the-laws α)) (LL.tells (T.the-type α) (T′.the-laws α)) fullShare h vs b o $
+      use1 W (‵ (fat fullShare (T′.mir erased) b o (T′.lowered h))) (W .laws .raw-at fullShare (T′.mir erased) b o (T′.lowered h)) $
+      move ! (1 ∷ []) $ peeks ! B (Is B) (shows 𝓤 H A B) h (T′.lowered h ∷ []) (λ was.
+      let fields = LL.owed (T.the-type α) (T′.the-laws α) h _ was in
+      let base-is = fields .1 .0 in
+      let width-is = fields .1 .1 .0 in
+      let at-is = fields .1 .1 .1 .0 in
+      -- [what the walker owns; its cell; the open borrow; obs; auth; 'a's token; nothing; the locals]
+      use1 W (‵ (Words α (h .words))) (words-of α 𝓤 H A W h) $
+      use1 W (‵ (Words α (h .words)) ⊛ ‵ (Words α (h .words))) (words-twice α 𝓤 H A W (h .words)) $ split ! $
+      move ! (6 ∷ 0 ∷ 2 ∷ []) $ turn ! 8 $
+      -- [the locals; 'a's token (14); the words'; the cell (16); the words'; the open borrow; obs; auth; nothing]
+      sets ! (of-opd ! (load ! (from ! (hop ! (look ! 2 refl) (fld ! refl (stop !)))) (look-in ! 16 (sub ! 0 refl (whole !))))) refl
+      (tt, (tt, (record { fits = fields .0 .0 .1 .0 }, tt))) $
+      sets ! (of-opd ! (load ! (from ! (hop ! (look ! 2 refl) (fld ! refl (stop !)))) (look-in ! 16 (sub ! 1 refl (whole !))))) refl (tt, record { fits = base-is .1 }) $
+      sets ! (of-opd ! (load ! (from ! (hop ! (look ! 2 refl) (fld ! refl (stop !)))) (look-in ! 16 (sub ! 2 refl (whole !))))) refl (tt, record { fits = width-is .1 }) $
+      sets ! (of-opd ! (load ! (from ! (hop ! (look ! 2 refl) (fld ! refl (stop !)))) (look-in ! 16 (sub ! 3 refl (whole !))))) refl (tt, record { fits = at-is .1 }) $
+      calls-on ! (fmOf 𝓤 H (W .laws) 𝓣) 14 step-at.ended (step-at.clauses 𝓤 H A mem run) known-step (
+        (κs .1 .0, tt),
+        (qs .1 .0, tt),
+        tt,
+        (h .words, (h .base, (h .width, (h .at, tt)))),
+        (slice-vals (h .words), (vint w32 (h .base) ∷ [], (vint w16 (h .width) ∷ [], (vint w16 (h .at) ∷ [], tt)))),
+      ) tt
+      (taken, (made (uint-makes 𝓤 H A W w32 _ _ base-is), (made (uint-makes 𝓤 H A W w16 _ _ width-is), (made (uint-makes 𝓤 H A W w16 _ _ at-is), tt)))) (id⊢ 𝓤 (emp 𝓤))
+      (λ r _. r ≡ stepAt (recordWord (h .words .now) (h .base) (h .width)) (h .width) (h .at)) (λ r _. id⊢ 𝓤 _) refl
+      (and-then ! (local-of ! refl) (and-then ! (local-of ! refl) (and-then ! (local-of ! refl) (and-then ! (local-of ! refl) (no-more !))))) (λ u r _ found is-r.
+      lands-at ! refl (EL.lawful S.the-type S′.the-laws 𝓤 H A W tt .typed r _ is-r .0) $
+      -- [the locals; 'a's token (14); the cell (15); the words'; the open borrow; obs; auth; nothing]
+      calls-on ! (fmOf 𝓤 H (W .laws) 𝓣) 14 after.ended (after.clauses 𝓤 H A mem run) known-after (tt, tt, tt, (r, tt), (u ∷ [], tt)) tt
+      (made (EL.makes S.the-type S′.the-plain 𝓤 H A r _ is-r), tt) (id⊢ 𝓤 (emp 𝓤)) (λ k _. k ≡ afterStep r) (λ k _. id⊢ 𝓤 _) refl
+      (and-then ! (local-of ! refl) (no-more !)) (λ v k _ goes is-k.
+      let moved : Walker = movedTo h k in
+      land ! (from ! (stop !)) (store ! 10 refl (uint-lawful 𝓤 H A W w16 .typed k _ is-k .0)) $
+      rewrite ! 10 (λ (z : Val). ‵ (fat fullShare (tyInt w16) (at 5) 0 z)) (ap only (is-k .0)) refl $
+      assigns ! (of-opd ! (local-of ! refl)) (from ! (hop ! (look ! 2 refl) (fld ! refl (stop !)))) (store-in ! 15 (sub ! 3 refl (whole !)) (tt, record { fits = is-k .1 })) $
+      sets ! (of-opd ! (local-of ! refl)) refl (EL.lawful S.the-type S′.the-laws 𝓤 H A W tt .typed r _ is-r .0) $
+      -- the borrow is closed at the walker with the new number
+      turn ! 14 $ move ! (1 ∷ []) $
+      use1 W (‵ (cellAt fullShare (B .mir) (T′.lowered moved ∷ []) b o)) (W .laws .at-raw fullShare (T′.mir erased) b o (T′.lowered moved)) $
+      move ! (2 ∷ []) $ use1 W (‵ (Walks α moved)) (from-words α 𝓤 H A W moved (base-is .1) (width-is .1) (is-k .1)) $
+      move ! (1 ∷ 0 ∷ 3 ∷ 4 ∷ 5 ∷ []) $ closes ! tt B moved (T′.lowered moved ∷ []) b o $
+      feqI ! (List Val) (vptr b o ∷ []) (vptr b o ∷ []) refl $ fjoin3 ! $ move ! (1 ∷ 2 ∷ 0 ∷ []) $ turn ! 4 $
+      leaves ! (full _ ∷ full _ ∷ full _ ∷ full _ ∷ full _ ∷ full _ ∷ []) $
+      keep ! (0 ∷ 1 ∷ 2 ∷ []) $ by ! (ends 𝓤 H A W f.ended ways (f.clauses 𝓤 H A mem run) κs qs bounds a g [] u r (moved, tt) (tt, tt)
+      (factI 𝓤 _ (emp 𝓤) (found, ap (movedTo h) goes)) (EL.makes S.the-type S′.the-plain 𝓤 H A r _ is-r)))))))
 
 pub next-spec : {M : Type 1} → stated.statement M
 unfolding code.routine tablesOf
