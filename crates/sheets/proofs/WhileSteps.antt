@@ -22,7 +22,8 @@ use types.Run.{Opd, first, blocks, branches, skips, jumps, Below, loops}
 abbrev pub Less : {X : Type 0} → (X → ℕ) → X → X → Type 0
 Less m j i = m j < m i
 
-module _ {M : Type 1} (𝓤 : URA M) (H : Heap 𝓤) (A : Atoms 𝓤) (𝓣 : Tables 𝓤 H) (E : Env 𝓤 H) (rest : Body) (Kf : Val → SProp 𝓤) {X : Type 0} (m : X → ℕ) (At : X → List (Item 𝓤)) where
+module _ {M : Type 1} (𝓤 : URA M) (H : Heap 𝓤) (A : Atoms 𝓤) (𝓣 : Tables 𝓤 H) (E : Env 𝓤 H) (rest : Body) (Kf : Val → SProp 𝓤) {X : Type 0}
+    (m : X → ℕ) (At : X → List (Item 𝓤)) where
   abbrev pub Turned : X → Out → SProp 𝓤
   Turned i = afterTurn 𝓤 H (Below 𝓤 H A (Less m) At i) (afterBlock 𝓤 H (afterSeq 𝓤 H (Wp 𝓤 H (𝓣 .C) (𝓣 .Λ) E rest (atReturn 𝓤 H E Kf)) (atReturn 𝓤 H E Kf)))
 
