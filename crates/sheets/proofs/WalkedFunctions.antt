@@ -1,10 +1,12 @@
 -- How a function that is walked by hand meets its contract: from what it does with each parameter, and a walk of its body.
 --     Way s k              a parameter's: what is had of it at exit, that this says its last value, its machine value, and whether what it owns on
 --                          entry is used
---     number, shared-slice     can be copied: nothing is had of it at exit
---     kept-slice           a `&mut [T]` that the function still owns at exit.        given-slice, given-ref    one that it gives up for good
+--     plain-value, number, shared-slice     can be copied: nothing is had of it at exit
+--     kept-slice, kept-ref     a `&mut [T]` or a `&mut T` that the function still owns at exit.        given-slice, given-ref    one that it gives up for good
 --     meets-by             the function meets its contract. The walk starts with the locals (`FunctionFrames`), and behind them the tokens, what
 --                          the parameters own where it is used, and what the contract requires
+--     Known, Walk          what is known of the arguments on entry, and the walk, at one choice of them
+--     ends Δ               how the walk ends: with the tokens, what is had of the parameters, and Δ, which is what the result owns
 -- Assumes `Given`.
 use Prim.Native.Nat.{ℕ}
 use mathlib.Core.Bool.{Bool, true, false}
@@ -19,7 +21,7 @@ use base.Fml.{Fml}
 use prog.Wp.{Heap, WpFn, Tables}
 use ghost.Atoms.{Atoms, sem}
 use contract.Lifetimes.{Lfts, Shares, AllOutlive}
-use types.Kit.{Given, Item, ‵, raw, ⋆, push, Sq, runs, atRet, ! }
+use types.Kit.{Given, Item, ‵, raw, ⋆, push, ++⊢, ⊢++, Sq, runs, atRet, ! }
 use sound.WpLaws.{WpFn-mono}
 use denote.RattleType.{RattleType, Denots, Valss, mirs, flat, owns}
 use denote.Laws.{Is, Ises, Are, Typed, Tells, Spells, valss, Tellss, Lawful, Lawfuls, all-typed}
@@ -32,10 +34,9 @@ use denote.Triple.Clauses.{Ended, Clauses, Lasts, atExit, closing}
 use denote.Triple.End.{Kepts, Fins}
 use denote.Triple.Entry.{Args, Vals, Res}
 use denote.Triple.Spec.{Meets}
-use denote.Triple.Statement.{Contract}
-use denote.Triple.Walked.{Stay, Stays, stay-slice, gave-ref, gave-slice, stay-dropped, hasOf, Fit, onExit, walkOf, ends-at, Goes, goes-slice, goes-gave-ref, goes-gave-slice, goes-dropped, AllGo, walked, walk-meets}
-use Rattle.truth.proofs.pairs.FunctionFrames.{held, placed, Taken, joined, parted, enters}
-use Rattle.truth.proofs.pairs.LentCalls.{tokens, tokens-are, are-tokens}
+use denote.Triple.Walked.{Stay, Stays, stay-ref, stay-slice, gave-ref, gave-slice, stay-dropped, hasOf, Fit, onExit, walkOf, ends-at, Goes, goes-ref, goes-slice, goes-gave-ref, goes-gave-slice, Silent, goes-dropped, AllGo, walked, walk-meets}
+use Rattle.sheets.proofs.FunctionFrames.{held, placed, Taken, enters}
+use Rattle.sheets.proofs.LentCalls.{tokens, tokens-are, are-tokens}
 
 module _ {M : Type 1} (𝓤 : URA M) (H : Heap 𝓤) (A : Atoms 𝓤) (W : Given 𝓤 H A) where
   pub record Way {n : ℕ} (s : Slot n) (k : Kept) : Type 2 where
@@ -49,16 +50,32 @@ module _ {M : Type 1} (𝓤 : URA M) (H : Heap 𝓤) (A : Atoms 𝓤) (W : Given
     pub after-has : (κs : Lfts n) (x : s .row κs .Denot) (z : Last (s .row κs .exit k) x) (vs : List Val) → ent 𝓤 (⋆ 𝓤 H A (after κs x z vs)) (sem 𝓤 H A (stay .has κs x z vs))
 
   module _ (n : ℕ) where
-    abbrev pub number : (w : Width) → Way {n = n} (plain (λ κs. UInt w)) yes
-    number w = record {
-      stay = stay-dropped (plain (λ κs. UInt w)) yes;
-      goes = goes-dropped 𝓤 H A W n (plain (λ κs. UInt w)) yes (λ κs x f. refl);
-      spell = λ κs. uint-vals w;
-      tells = λ κs. uint-tells w;
-      lawful = λ κs. uint-lawful 𝓤 H A W w;
+    abbrev pub plain-value : (R : RattleType) (f : R .Denot → List Val) → Tells R (Is R) f → Lawful 𝓤 H A R → Silent 𝓤 H A W n (plain (λ κs. R)) yes → Way {n = n} (plain (λ κs. R)) yes
+    plain-value R f t l silent = record {
+      stay = stay-dropped (plain (λ κs. R)) yes;
+      goes = goes-dropped 𝓤 H A W n (plain (λ κs. R)) yes silent;
+      spell = λ κs. f;
+      tells = λ κs. t;
+      lawful = λ κs. l;
       used = false;
       after = λ κs x z vs. [];
       after-has = λ κs x z vs. id⊢ 𝓤 (emp 𝓤);
+    }
+
+    abbrev pub number : (w : Width) → Way {n = n} (plain (λ κs. UInt w)) yes
+    number w = plain-value (UInt w) (uint-vals w) (uint-tells w) (uint-lawful 𝓤 H A W w) (λ κs x f. refl)
+
+    abbrev of-ref : (j : ℕ) (ok : AllWithin n (j ∷ [])) (F : Lfts n → RattleType) (h : Stay (mutRefTo (j ∷ []) ok (plain F)) yes)
+        → Goes 𝓤 H A W n (mutRefTo (j ∷ []) ok (plain F)) yes h → Way {n = n} (mutRefTo (j ∷ []) ok (plain F)) yes
+    of-ref j ok F h g = record {
+      stay = h;
+      goes = g;
+      spell = λ κs. ptr-vals;
+      tells = λ κs. mut-tells (nameOf (j ∷ [])) (meetAt n (j ∷ []) ok κs) (F κs);
+      lawful = λ κs. mut-lawful 𝓤 H A W (nameOf (j ∷ [])) (meetAt n (j ∷ []) ok κs) (F κs);
+      used = true;
+      after = λ κs x z vs. ‵ (h .has κs x z vs) ∷ [];
+      after-has = λ κs x z vs. id⊢ 𝓤 (sem 𝓤 H A (h .has κs x z vs));
     }
 
     module _ (j : ℕ) (ok : AllWithin n (j ∷ [])) (R : RattleType) where
@@ -93,16 +110,11 @@ module _ {M : Type 1} (𝓤 : URA M) (H : Heap 𝓤) (A : Atoms 𝓤) (W : Given
       given-slice = of-slice (gave-slice (j ∷ []) ok (plain (λ κs. R))) (goes-gave-slice 𝓤 H A W n j ok (plain (λ κs. R)))
 
       abbrev pub given-ref : Way {n = n} (mutRefTo (j ∷ []) ok (plain (λ κs. R))) yes
-      given-ref = record {
-        stay = gave-ref (j ∷ []) ok (plain (λ κs. R));
-        goes = goes-gave-ref 𝓤 H A W n j ok (plain (λ κs. R));
-        spell = λ κs. ptr-vals;
-        tells = λ κs. mut-tells (nameOf (j ∷ [])) (meetAt n (j ∷ []) ok κs) R;
-        lawful = λ κs. mut-lawful 𝓤 H A W (nameOf (j ∷ [])) (meetAt n (j ∷ []) ok κs) R;
-        used = true;
-        after = λ κs x z vs. ‵ (gave-ref {n = n} (j ∷ []) ok (plain (λ κs. R)) .has κs x z vs) ∷ [];
-        after-has = λ κs x z vs. id⊢ 𝓤 (sem 𝓤 H A (gave-ref {n = n} (j ∷ []) ok (plain (λ κs. R)) .has κs x z vs));
-      }
+      given-ref = of-ref j ok (λ κs. R) (gave-ref (j ∷ []) ok (plain (λ κs. R))) (goes-gave-ref 𝓤 H A W n j ok (plain (λ κs. R)))
+
+    -- what it refers to may hold a reference itself, so its type is at the function's lifetimes
+    abbrev pub kept-ref : (j : ℕ) (ok : AllWithin n (j ∷ [])) (F : Lfts n → RattleType) → Way {n = n} (mutRefTo (j ∷ []) ok (plain F)) yes
+    kept-ref j ok F = of-ref j ok F (stay-ref (j ∷ []) ok (plain F)) (goes-ref 𝓤 H A W n j ok (plain F))
 
   abbrev if-used : Bool → Fml → List (Item 𝓤) → List (Item 𝓤)
   if-used true P is = ‵ P ∷ is
@@ -157,7 +169,7 @@ module _ {M : Type 1} (𝓤 : URA M) (H : Heap 𝓤) (A : Atoms 𝓤) (W : Given
           → ent 𝓤 (⋆ 𝓤 H A (on-exit ss ks ws a zs vss)) (sem 𝓤 H A (hasOf κs ss ks (stays ss ks ws) a zs vss))
       exit-has [] ks ws a zs vss = id⊢ 𝓤 (emp 𝓤)
       exit-has (s ∷ ss) ks ws a zs vss =
-          via 𝓤 _ (parted 𝓤 H A (ws .0 .after κs (a .0) (zs .0) (vss .0)) (on-exit ss (ks .1) (ws .1) (a .1) (zs .1) (vss .1)))
+          via 𝓤 _ (⊢++ 𝓤 H A (ws .0 .after κs (a .0) (zs .0) (vss .0)) (on-exit ss (ks .1) (ws .1) (a .1) (zs .1) (vss .1)))
           (mono∗ 𝓤 (ws .0 .after-has κs (a .0) (zs .0) (vss .0)) (exit-has ss (ks .1) (ws .1) (a .1) (zs .1) (vss .1)))
 
   module _ (T : Ended) (ws : Ways (T .signature .params) (T .kept)) (c : Clauses 𝓤 T) where
@@ -170,30 +182,36 @@ module _ {M : Type 1} (𝓤 : URA M) (H : Heap 𝓤) (A : Atoms 𝓤) (W : Given
     abbrev pub passed : (κs : Lfts n) → Args (T .signature) κs → List Val
     passed κs a = flat (typesAt (T .signature .params) κs) (machine κs a)
 
-    abbrev pub walk-of : Contract 𝓤
-    walk-of = walkOf 𝓤 H A T (stays (T .signature .params) (T .kept) ws) c
+    -- what is known of the arguments on entry
+    abbrev pub Known : (κs : Lfts n) → Args (T .signature) κs → Type 0
+    Known κs a = Are (typesAt (T .signature .params) κs) (Ises (typesAt (T .signature .params) κs)) a (machine κs a)
 
-    -- how a walk ends: with the tokens, and with what is had of the parameters. The result is plain
-    pub ends : (y : walk-of .Ghost) (v : Val) (r : Res (T .signature) (y .0 .0)) (zs : Lasts T (y .0 .0) (y .0 .3))
-        → Fit T (stays (T .signature .params) (T .kept) ws) (y .0 .0) (y .0 .3) zs → ent 𝓤 (emp 𝓤) (c (y .0 .0) (y .0 .3) .ensures (y .1) r (atExit T (y .0 .0) (y .0 .3) zs))
-        → ent 𝓤 (emp 𝓤) (sem 𝓤 H A (typeAt (T .signature .result) (y .0 .0) .own r (v ∷ [])))
-        → ent 𝓤 (⋆ 𝓤 H A (tokens 𝓤 H A n (y .0 .0) (y .0 .1) ++ on-exit (y .0 .0) (T .signature .params) (T .kept) ws (y .0 .3) zs (y .0 .4))) (walk-of .post y v)
-    ends y v r zs fits said owned =
-        let P : SProp 𝓤 = onExit 𝓤 H A T (stays (T .signature .params) (T .kept) ws) (y .0 .0) (y .0 .1) (y .0 .4) v r (y .0 .3) zs in
-        let has : SProp 𝓤 = sem 𝓤 H A (hasOf (y .0 .0) (T .signature .params) (T .kept) (stays (T .signature .params) (T .kept) ws) (y .0 .3) zs (y .0 .4)) in
-        via 𝓤 _ (parted 𝓤 H A (tokens 𝓤 H A n (y .0 .0) (y .0 .1)) (on-exit (y .0 .0) (T .signature .params) (T .kept) ws (y .0 .3) zs (y .0 .4)))
-        (via 𝓤 P (mono∗ 𝓤 (tokens-are 𝓤 H A n (y .0 .0) (y .0 .1)) (via 𝓤 has (exit-has (y .0 .0) (T .signature .params) (T .kept) ws (y .0 .3) zs (y .0 .4))
-        (via 𝓤 _ (emp∗ 𝓤 has) (via 𝓤 _ (comm∗ 𝓤 (emp 𝓤) has) (monoR 𝓤 has owned)))))
-        (via 𝓤 _ (via 𝓤 _ (emp∗ 𝓤 P) (via 𝓤 _ (comm∗ 𝓤 (emp 𝓤) P) (monoR 𝓤 P said)))
-        (ends-at 𝓤 H A T (stays (T .signature .params) (T .kept) ws) c W y v r zs fits)))
+    module _ (κs : Lfts n) (qs : Shares n) (bounds : AllOutlive n (T .signature .outlives) κs) (a : Args (T .signature) κs) (g : c κs a .ghost) where
+      abbrev pub Ends : Val → SProp 𝓤
+      Ends = walkOf 𝓤 H A T (stays (T .signature .params) (T .kept) ws) c .post ((κs, qs, bounds, a, machine κs a), g)
+
+      pub ends : (Δ : List (Item 𝓤)) (v : Val) (r : Res (T .signature) κs) (zs : Lasts T κs a) → Fit T (stays (T .signature .params) (T .kept) ws) κs a zs
+          → ent 𝓤 (emp 𝓤) (c κs a .ensures g r (atExit T κs a zs)) → ent 𝓤 (⋆ 𝓤 H A Δ) (sem 𝓤 H A (typeAt (T .signature .result) κs .own r (v ∷ [])))
+          → ent 𝓤 (⋆ 𝓤 H A (tokens 𝓤 H A n κs qs ++ (on-exit κs (T .signature .params) (T .kept) ws a zs (machine κs a) ++ Δ))) (Ends v)
+      ends Δ v r zs fits said owned =
+          let P : SProp 𝓤 = onExit 𝓤 H A T (stays (T .signature .params) (T .kept) ws) κs qs (machine κs a) v r a zs in
+          let had : List (Item 𝓤) = on-exit κs (T .signature .params) (T .kept) ws a zs (machine κs a) in
+          via 𝓤 _ (⊢++ 𝓤 H A (tokens 𝓤 H A n κs qs) (had ++ Δ))
+          (via 𝓤 P (mono∗ 𝓤 (tokens-are 𝓤 H A n κs qs)
+          (via 𝓤 _ (⊢++ 𝓤 H A had Δ) (mono∗ 𝓤 (exit-has κs (T .signature .params) (T .kept) ws a zs (machine κs a)) owned)))
+          (via 𝓤 _ (via 𝓤 _ (emp∗ 𝓤 P) (via 𝓤 _ (comm∗ 𝓤 (emp 𝓤) P) (monoR 𝓤 P said)))
+          (ends-at 𝓤 H A T (stays (T .signature .params) (T .kept) ws) c W ((κs, qs, bounds, a, machine κs a), g) v r zs fits)))
+
+      abbrev pub Walk : Fn → Tables 𝓤 H → (ℕ → ℕ) → Type 1
+      Walk f 𝓣 at = Sq W (held 𝓤 H (placed 𝓤 H (f .locals) at) (empty ∷ map full (passed κs a))
+          ++ (tokens 𝓤 H A n κs qs ++ (on-entry κs (T .signature .params) (T .kept) ws a (machine κs a) ++ (raw (c κs a .requires g) ∷ []))))
+          (runs (𝓣 .C) (𝓣 .Λ) (placed 𝓤 H (f .locals) at) (f .body) (atRet (placed 𝓤 H (f .locals) at) Ends))
 
     pub meets-by : (f : Fn) (𝓣 : Tables 𝓤 H)
-        → ((κs : Lfts n) (a : Args (T .signature) κs) (at : ℕ → ℕ) → Typed (mirs (typesAt (T .signature .params) κs)) (passed κs a) → Taken (placed 𝓤 H (f .locals) at) (passed κs a))
-        → ((κs : Lfts n) (qs : Shares n) (bounds : AllOutlive n (T .signature .outlives) κs) (a : Args (T .signature) κs) (g : c κs a .ghost)
-        → Are (typesAt (T .signature .params) κs) (Ises (typesAt (T .signature .params) κs)) a (machine κs a) → (at : ℕ → ℕ)
-        → Sq W (held 𝓤 H (placed 𝓤 H (f .locals) at) (empty ∷ map full (passed κs a)) ++ (tokens 𝓤 H A n κs qs
-        ++ (on-entry κs (T .signature .params) (T .kept) ws a (machine κs a) ++ (raw (c κs a .requires g) ∷ []))))
-        (runs (𝓣 .C) (𝓣 .Λ) (placed 𝓤 H (f .locals) at) (f .body) (atRet (placed 𝓤 H (f .locals) at) (walk-of .post ((κs, qs, bounds, a, machine κs a), g)))))
+        → ((κs : Lfts n) (a : Args (T .signature) κs) (at : ℕ → ℕ) → Known κs a → Typed (mirs (typesAt (T .signature .params) κs)) (passed κs a)
+        → Taken (placed 𝓤 H (f .locals) at) (passed κs a))
+        → ((κs : Lfts n) (qs : Shares n) (bounds : AllOutlive n (T .signature .outlives) κs) (a : Args (T .signature) κs) (g : c κs a .ghost) → Known κs a
+        → (at : ℕ → ℕ) → Walk κs qs bounds a g f 𝓣 at)
         → Meets 𝓤 H A (T .signature) (WpFn 𝓤 H (𝓣 .C) (𝓣 .Λ) f) (closing 𝓤 H A T c)
     meets-by f 𝓣 suits k =
         walk-meets 𝓤 H A T (stays (T .signature .params) (T .kept) ws) W (all-go (T .signature .params) (T .kept) ws) c
@@ -207,7 +225,7 @@ module _ {M : Type 1} (𝓤 : URA M) (H : Heap 𝓤) (A : Atoms 𝓤) (W : Given
         via 𝓤 (⋆ 𝓤 H A (toks ++ (entry ++ (raw R ∷ []))))
         (via 𝓤 _ (monoL 𝓤 R (mono∗ 𝓤 (are-tokens 𝓤 H A n κs qs) (has-entry κs (T .signature .params) (T .kept) ws a (machine κs a))))
         (via 𝓤 _ (assoc∗ 𝓤 (⋆ 𝓤 H A toks) (⋆ 𝓤 H A entry) R)
-        (via 𝓤 _ (monoR 𝓤 (⋆ 𝓤 H A toks) (joined 𝓤 H A entry (raw R ∷ []))) (joined 𝓤 H A toks (entry ++ (raw R ∷ []))))))
-        (enters {W = W} ! (𝓣 .C) (𝓣 .Λ) f (passed κs a) (walk-of .post ((κs, qs, bounds, a, machine κs a), g)) {Γ = toks ++ (entry ++ (raw R ∷ []))}
-        (λ at. suits κs a at (all-typed 𝓤 H A (typesAt (T .signature .params) κs) (all-lawful κs (T .signature .params) (T .kept) ws) a (machine κs a) are))
+        (via 𝓤 _ (monoR 𝓤 (⋆ 𝓤 H A toks) (++⊢ 𝓤 H A entry (raw R ∷ []))) (++⊢ 𝓤 H A toks (entry ++ (raw R ∷ []))))))
+        (enters {W = W} ! (𝓣 .C) (𝓣 .Λ) f (passed κs a) (Ends κs qs bounds a g) {Γ = toks ++ (entry ++ (raw R ∷ []))}
+        (λ at. suits κs a at are (all-typed 𝓤 H A (typesAt (T .signature .params) κs) (all-lawful κs (T .signature .params) (T .kept) ws) a (machine κs a) are))
         (k κs qs bounds a g are) .prf)))

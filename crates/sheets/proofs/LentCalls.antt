@@ -4,8 +4,9 @@
 --     Handed Rs a vss      of each argument, whether it is `taken` from the caller, as a lent slice is, or `made` for nothing, as plain data is
 --     given-up             what is taken.        last-of      what is said of the last value of each argument that may have changed
 --     calls-on             the call: what the contract says of the result and of the last values, and the tokens, come back
+--     calls-on-last        the same of a call that is the last statement of its part, as of a turn
 -- Assumes `Given`, and that the table of calls is monotone under a frame.
-use mathlib.Core.Path.{_≡_, subst}
+use mathlib.Core.Path.{_≡_, sym, subst}
 use Prim.Native.Nat.{ℕ, zero, suc}
 use mathlib.Core.List.{List, [], _∷_, _++_}
 use lib.ListN.{length, take, drop}
@@ -18,7 +19,7 @@ use prog.Wp.{Heap, Env, Calls, Loops, evalOpds}
 use ghost.Atoms.{Atoms, sem}
 use contract.Lifetimes.{Lfts, Shares, toks}
 use contract.Monad.{fact}
-use types.Kit.{Goal, Soaks, Given, Item, ‵, raw, _⊛_, some, later, ⋆, push, pop, Post, runs, lands, aim, Seq, _$_, by, move, use1, split, pick, await}
+use types.Kit.{Goal, Soaks, Given, Item, ‵, raw, _⊛_, some, later, ⋆, push, pop, ++⊢, ⊢++, Post, runs, lands, settles, aim, Seq, _$_, _∵_, !, qed, by, move, use1, split, pick, await}
 use types.Run.{Opds}
 use sound.WpLaws.{FmC}
 use denote.RattleType.{RattleType, Denots, Valss, owns}
@@ -32,7 +33,7 @@ use denote.Triple.End.{Kepts, Fins, lastsOf}
 use denote.Triple.Entry.{Res, alive, onEntry}
 use denote.Triple.Spec.{tripleOf}
 use denote.Triple.Statement.{Contract, Triple}
-use Rattle.truth.proofs.pairs.FunctionFrames.{joined, parted, cut-at}
+use Rattle.sheets.proofs.FunctionFrames.{cut-at}
 
 module _ {M : Type 1} (𝓤 : URA M) (H : Heap 𝓤) (A : Atoms 𝓤) where
   abbrev pub tokens : (n : ℕ) → Lfts n → Shares n → List (Item 𝓤)
@@ -124,7 +125,7 @@ module _ {M : Type 1} (𝓤 : URA M) (H : Heap 𝓤) (A : Atoms 𝓤) (W : Given
   asks : ent 𝓤 (emp 𝓤) (c (x .0) (x .3) .requires g) → (Γ : List (Item 𝓤)) → ent 𝓤 (⋆ 𝓤 H A (lent ++ (handed ++ Γ))) (sep 𝓤 (called .pre (x, g)) (⋆ 𝓤 H A Γ))
   asks asked Γ =
       let P : SProp 𝓤 = onEntry 𝓤 H A (T .signature) (x .0) (x .1) (x .3) (x .4) in
-      via 𝓤 _ (parted 𝓤 H A lent (handed ++ Γ)) (via 𝓤 _ (monoR 𝓤 (⋆ 𝓤 H A lent) (parted 𝓤 H A handed Γ))
+      via 𝓤 _ (⊢++ 𝓤 H A lent (handed ++ Γ)) (via 𝓤 _ (monoR 𝓤 (⋆ 𝓤 H A lent) (⊢++ 𝓤 H A handed Γ))
       (via 𝓤 _ (assoc′ 𝓤 (⋆ 𝓤 H A lent) (⋆ 𝓤 H A handed) (⋆ 𝓤 H A Γ)) (monoL 𝓤 (⋆ 𝓤 H A Γ)
       (via 𝓤 _ (mono∗ 𝓤 (tokens-are 𝓤 H A (T .signature .lifetimes) (x .0) (x .1)) (given-up-owns 𝓤 H A (typesAt (T .signature .params) (x .0)) (x .3) (x .4) hs))
       (via 𝓤 _ (emp∗ 𝓤 P) (via 𝓤 _ (comm∗ 𝓤 (emp 𝓤) P) (monoR 𝓤 P asked)))))))
@@ -142,34 +143,42 @@ module _ {M : Type 1} (𝓤 : URA M) (H : Heap 𝓤) (A : Atoms 𝓤) (W : Given
       move t (1 ∷ []) $ split t $ move t (1 ∷ []) $ facts t R (Is R) (shows 𝓤 H A R) r (w ∷ []) (λ is.
       move t (2 ∷ 0 ∷ 1 ∷ []) $ by t (via 𝓤 _ (monoR 𝓤 (⋆ 𝓤 H A Δ)
       (via 𝓤 _ (mono∗ 𝓤 (are-tokens 𝓤 H A (T .signature .lifetimes) (x .0) (x .1))
-      (via 𝓤 _ (monoL 𝓤 (⋆ 𝓤 H A Γ) (lasts-said 𝓤 H A (x .0) (T .signature .params) (T .kept) (x .3) zs)) (joined 𝓤 H A (lasting zs) Γ)))
-      (joined 𝓤 H A lent (lasting zs ++ Γ)))) (via 𝓤 _ (joined 𝓤 H A Δ (lent ++ (lasting zs ++ Γ))) (k r zs said is .prf)))))))
+      (via 𝓤 _ (monoL 𝓤 (⋆ 𝓤 H A Γ) (lasts-said 𝓤 H A (x .0) (T .signature .params) (T .kept) (x .3) zs)) (++⊢ 𝓤 H A (lasting zs) Γ)))
+      (++⊢ 𝓤 H A lent (lasting zs ++ Γ)))) (via 𝓤 _ (++⊢ 𝓤 H A Δ (lent ++ (lasting zs ++ Γ))) (k r zs said is .prf)))))))
+
+  -- what a call takes, to show Z: `after w` is what is to be shown once it has returned w
+  abbrev Call : (K : Type 0) (Φ : List (Item 𝓤)) (E : Env 𝓤 H) (xs : List Operand) (n : ℕ) → (Val → Goal 𝓤 H) → Type 1 → Type 2
+  Call K Φ E xs n after Z = ent 𝓤 (emp 𝓤) (c (x .0) (x .3) .requires g) → (Said : Res (T .signature) (x .0) → Lasts T (x .0) (x .3) → Type 0) → Says Said
+      → drop n Φ ≡ lent ++ (handed ++ beyond (drop n Φ)) → Opds K W Φ E xs (passed 𝓤 H A (T .signature) x)
+      → ((w : Val) (r : R .Denot) (zs : Lasts T (x .0) (x .3)) → Said r zs → Is R r (w ∷ [])
+      → Seq K W (take n Φ ++ (lent ++ (lasting zs ++ beyond (drop n Φ)))) (after w))
+      → Z
+
+  on-call : {K : Type 0} → K → (Φ : List (Item 𝓤)) (E : Env 𝓤 H) (xs : List Operand) (n : ℕ) (C : Calls 𝓤 H) (f : Name) → FmC 𝓤 H (W .laws) C → Triple 𝓤 (C f) called
+      → (after : Val → Goal 𝓤 H) → ((w : Val) → Soaks (after w))
+      → Call K Φ E xs n after (ent 𝓤 (⋆ 𝓤 H A Φ) (H .⇛ (evalOpds 𝓤 H E xs (λ us. C f us (λ w. aim 𝓤 H (after w))))))
+  on-call t Φ E xs n C f fm met after z asked Said told e os k =
+      let Γ : List (Item 𝓤) = beyond (drop n Φ) in
+      let pre : SProp 𝓤 = called .pre (x, g) in
+      let next : Val → SProp 𝓤 = λ w. aim 𝓤 H (after w) in
+      via 𝓤 (evalOpds 𝓤 H E xs (λ us. C f us next))
+      (os .go (λ us. C f us next) (via 𝓤 _ (cut-at 𝓤 H A n Φ) (qed W (raw (⋆ 𝓤 H A (take n Φ)) ∷ raw (⋆ 𝓤 H A (drop n Φ)) ∷ []) ∵
+      move ! (1 ∷ []) $ use1 W (raw pre ⊛ raw (⋆ 𝓤 H A Γ)) (subst (λ (Δ : List (Item 𝓤)). ent 𝓤 (⋆ 𝓤 H A Δ) (sep 𝓤 pre (⋆ 𝓤 H A Γ))) (sym e) (asks asked Γ)) $ split ! $
+      use1 W (raw (C f (passed 𝓤 H A (T .signature) x) (called .post (x, g)))) (met (x, g)) $ move ! (0 ∷ 2 ∷ []) $
+      by ! (fm f (passed 𝓤 H A (T .signature) x) (called .post (x, g)) next (sep 𝓤 (⋆ 𝓤 H A (take n Φ)) (⋆ 𝓤 H A Γ))
+      (λ w. hears t Said told {G = after w} (z w) (take n Φ) Γ w (k w) .prf)))))
+      (W .laws .⇛-intro _)
 
 module _ {M : Type 1} {𝓤 : URA M} {H : Heap 𝓤} {A : Atoms 𝓤} {K : Type 0} {W : Given 𝓤 H A} {Φ : List (Item 𝓤)} {E : Env 𝓤 H} {C : Calls 𝓤 H} {Λ : Loops 𝓤 H}
-    {q : Post 𝓤 H} {f : Name} {xs : List Operand} {d : Place} {rest : Body} where
-  pub calls-on : K → FmC 𝓤 H (W .laws) C → (n : ℕ) (T : Ended) (c : Clauses 𝓤 T) → Triple 𝓤 (C f) (tripleOf 𝓤 H A (T .signature) (closing 𝓤 H A T c))
+    {q : Post 𝓤 H} {f : Name} {xs : List Operand} {d : Place} where
+  pub calls-on : K → {rest : Body} → FmC 𝓤 H (W .laws) C → (n : ℕ) (T : Ended) (c : Clauses 𝓤 T) → Triple 𝓤 (C f) (tripleOf 𝓤 H A (T .signature) (closing 𝓤 H A T c))
       → (x : Bound 𝓤 H A (T .signature)) (g : c (x .0) (x .3) .ghost) (hs : Handed 𝓤 H A (typesAt (T .signature .params) (x .0)) (x .3) (x .4))
-      → ent 𝓤 (emp 𝓤) (c (x .0) (x .3) .requires g)
-      → (Said : Res (T .signature) (x .0) → Lasts T (x .0) (x .3) → Type 0) → Says 𝓤 H A W T c x g hs Said
-      → drop n Φ ≡ lent 𝓤 H A W T c x g hs ++ (handed 𝓤 H A W T c x g hs ++ beyond 𝓤 H A W T c x g hs (drop n Φ))
-      → Opds K W Φ E xs (passed 𝓤 H A (T .signature) x)
-      → ((w : Val) (r : Res (T .signature) (x .0)) (zs : Lasts T (x .0) (x .3)) → Said r zs → Is (typeAt (T .signature .result) (x .0)) r (w ∷ [])
-      → Seq K W (take n Φ ++ (lent 𝓤 H A W T c x g hs ++ (lasting 𝓤 H A W T c x g hs zs ++ beyond 𝓤 H A W T c x g hs (drop n Φ)))) (lands C Λ E d w rest q))
-      → Seq K W Φ (runs C Λ E (seq (call f xs d) rest) q)
-  calls-on t fm n T c met x g hs asked Said told e os k =
-      let Γ : List (Item 𝓤) = beyond 𝓤 H A W T c x g hs (drop n Φ) in
-      let after : Val → SProp 𝓤 = λ w. aim 𝓤 H (lands C Λ E d w rest q) in
-      let kept : SProp 𝓤 = sep 𝓤 (⋆ 𝓤 H A (take n Φ)) (⋆ 𝓤 H A Γ) in
-      let pre : SProp 𝓤 = called 𝓤 H A W T c x g hs .pre (x, g) in
-      record {
-        prf = via 𝓤 (evalOpds 𝓤 H E xs (λ us. C f us after))
-            (os .go (λ us. C f us after)
-            (via 𝓤 (sep 𝓤 pre kept)
-            (via 𝓤 _ (cut-at 𝓤 H A n Φ) (via 𝓤 _ (monoR 𝓤 (⋆ 𝓤 H A (take n Φ)) (subst (λ (Δ : List (Item 𝓤)). ent 𝓤 (⋆ 𝓤 H A (drop n Φ)) (⋆ 𝓤 H A Δ)) e (id⊢ 𝓤 _)))
-            (via 𝓤 _ (monoR 𝓤 (⋆ 𝓤 H A (take n Φ)) (asks 𝓤 H A W T c x g hs asked Γ))
-            (via 𝓤 _ (assoc′ 𝓤 (⋆ 𝓤 H A (take n Φ)) pre (⋆ 𝓤 H A Γ)) (via 𝓤 _ (monoL 𝓤 (⋆ 𝓤 H A Γ) (comm∗ 𝓤 (⋆ 𝓤 H A (take n Φ)) pre)) (assoc∗ 𝓤 pre (⋆ 𝓤 H A (take n Φ)) (⋆ 𝓤 H A Γ)))))))
-            (via 𝓤 _ (monoL 𝓤 kept (met (x, g)))
-            (fm f (passed 𝓤 H A (T .signature) x) (called 𝓤 H A W T c x g hs .post (x, g)) after kept
-            (λ w. hears 𝓤 H A W T c x g hs t Said told {G = lands C Λ E d w rest q} tt (take n Φ) Γ w (k w) .prf)))))
-            (W .laws .⇛-intro _);
-      }
+      → Call 𝓤 H A W T c x g hs K Φ E xs n (λ w. lands C Λ E d w rest q) (Seq K W Φ (runs C Λ E (seq (call f xs d) rest) q))
+  calls-on t {rest} fm n T c met x g hs asked Said told e os k =
+      record { prf = on-call 𝓤 H A W T c x g hs t Φ E xs n C f fm met (λ w. lands C Λ E d w rest q) (λ w. tt) asked Said told e os k }
+
+  pub calls-on-last : K → FmC 𝓤 H (W .laws) C → (n : ℕ) (T : Ended) (c : Clauses 𝓤 T) → Triple 𝓤 (C f) (tripleOf 𝓤 H A (T .signature) (closing 𝓤 H A T c))
+      → (x : Bound 𝓤 H A (T .signature)) (g : c (x .0) (x .3) .ghost) (hs : Handed 𝓤 H A (typesAt (T .signature .params) (x .0)) (x .3) (x .4))
+      → Call 𝓤 H A W T c x g hs K Φ E xs n (λ w. settles E d w q) (Seq K W Φ (runs C Λ E (call f xs d) q))
+  calls-on-last t fm n T c met x g hs asked Said told e os k =
+      record { prf = on-call 𝓤 H A W T c x g hs t Φ E xs n C f fm met (λ w. settles E d w q) (λ w. tt) asked Said told e os k }
