@@ -6,7 +6,7 @@ use mathlib.Core.Bool.{Bool, true, false}
 use lib.Dec.{T}
 use Rattle.sheets.specs.Structures as Structures
 use Rattle.sheets.specs.Rules.{lent, lineWord, lineFits, lineOf, line, signalMost}
-use Rattle.sheets.specs.inner.Lines.{handed, decodedAs, decoded, mostOf}
+use Rattle.sheets.specs.inner.Lines.{handed, decodedAs, decoded}
 use Rattle.sheets.specs.declared.lines.Line.{Line}
 use Rattle.sheets.specs.declared.lines.Decoded.{Decoded}
 use Rattle.sheets.specs.declared.lines.Decoded.the-variants.{Formed, Malformed}
@@ -65,25 +65,6 @@ module _ (R : List ℕ) (j : ℕ) where
   pub malformed-fails : decoded R j ≡ Malformed → lineFits lent R j (lineWord lent R j 0) ≡ false
   unfolding decoded line
   malformed-fails e = malformed-by (lineWord lent R j 0) (lineFits lent R j (lineWord lent R j 0)) refl e
-
-  -- ---- and to question 16
-
-  same-most : (a : ℕ) {k l : Line} → Formed k ≡ Formed l → mostOf a k ≡ mostOf a l
-  same-most a {k} {l} e = let f : k ≡ l = cc in rw f
-
-  most-by : (a : ℕ) (l : Line) (b : Bool) (m : Structures.Line) → decodedAs b m ≡ Formed l → mostOf a l ≡ signalMost a m
-  unfolding decodedAs mostOf signalMost
-  most-by a l false m e = cc
-  most-by a l true (Structures.signal i) e = sym (same-most a e)
-  most-by a l true (Structures.negation k) e = sym (same-most a e)
-  most-by a l true (Structures.either i k) e = sym (same-most a e)
-  most-by a l true (Structures.somePath x arg) e = sym (same-most a e)
-  most-by a l true (Structures.somePathNot x arg) e = sym (same-most a e)
-  most-by a l true Structures.malformed e = cc
-
-  pub most-decoded : (a : ℕ) (l : Line) → decoded R j ≡ Formed l → mostOf a l ≡ signalMost a (line lent R j)
-  unfolding decoded
-  most-decoded a l e = most-by a l (lineFits lent R j (lineWord lent R j 0)) (line lent R j) e
 
   -- a line of another operation has no signal number
   pub other-most : (a op : ℕ) → (op ≡ 0 → ⊥) → signalMost a (lineOf lent R j op) ≡ true

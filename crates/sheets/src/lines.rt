@@ -3,7 +3,6 @@ ghost use mathlib.Core.Path.{_≡_};
 ghost use mathlib.Core.List.{_∷_, []};
 ghost use Prim.Native.Nat.{ℕ, _+_, _-_, _*_, _^_, _<_, _≤_};
 ghost use Rattle.sheets.specs.Questions.{ask, firstNo};
-ghost use lib.Dec.{T};
 ghost use Rattle.sheets.specs.Format.{operationPlace, variablesMost};
 ghost use Rattle.sheets.specs.Operations.{oneSignal, linesAbove};
 ghost use Rattle.sheets.specs.Rules as Rules;
@@ -93,7 +92,7 @@ fn refers_above(r: &[u16], j: u16, c: u16, n: u16) -> bool
 fn signal_fits(r: &[u16], j: u16) -> bool
     ensures { λ b. ⌜ b ≡ Rules.operandsFit Rules.lent (now (r .entry)) j oneSignal ⌝ }
 {
-    words::within(1, format::SIGNALS_MOST, rules::line_word(r, j, 1)) && unused(r, j, 2)
+    words::within(1, format::SIGNALS_MOST, rules::line_word(r, j, 1)) & unused(r, j, 2)
 }
 
 // Question 15 of the words of an operation on n lines above.
@@ -101,7 +100,7 @@ fn lines_fit(r: &[u16], j: u16, n: u16) -> bool
     requires { ⌜ n ≤ variablesMost ⌝ }
     ensures { λ b. ⌜ b ≡ Rules.operandsFit Rules.lent (now (r .entry)) j (linesAbove n) ⌝ }
 {
-    refers_above(r, j, 0, n) && unused(r, j, 1 + n)
+    refers_above(r, j, 0, n) & unused(r, j, 1 + n)
 }
 
 // Question 15 of a path line's words.
@@ -109,14 +108,11 @@ fn path_fits(r: &[u16], j: u16) -> bool
     ensures { λ b. ⌜ b ≡ Rules.pathFits Rules.lent (now (r .entry)) j ⌝ }
 {
     let x = rules::line_word(r, j, 1);
-    if !words::within(1, rules::automata(r), x) {
-        return false;
-    }
     let v = rules::variables(r, x);
     if v > format::VARIABLES_MOST {
         return false;
     }
-    refers_above(r, j, 1, v) && unused(r, j, 2 + v)
+    words::within(1, rules::automata(r), x) & refers_above(r, j, 1, v) & unused(r, j, 2 + v)
 }
 
 // The automaton and the lines that the words of line j name.
@@ -198,36 +194,26 @@ pub fn lines_refusal(r: &[u16]) -> u16
     0
 }
 
-// A signal's number is at most a, and another line has none.
-fn signal_most(line: Line, a: u16) -> bool
-    ensures { λ b. ⌜ b ≡ Lines.mostOf a line ⌝ }
+// A line that is a signal has a number of at most a.
+fn signal_most(r: &[u16], j: u16, a: u16) -> bool
+    ensures { λ b. ⌜ b ≡ Rules.signalMost a (Rules.line Rules.lent (now (r .entry)) j) ⌝ }
 {
-    match line {
-        Line::Signal(i) => i <= a,
-        Line::Negation(_) => true,
-        Line::Either(_, _) => true,
-        Line::SomePath(_) => true,
-        Line::SomePathNot(_) => true,
+    if operation(r, j) != SIGNAL {
+        return true;
     }
+    rules::line_word(r, j, 1) <= a
 }
 
-// Question 16, of a sheet that question 15 accepts: the signal numbers are at most a. Only signals are taken apart.
+// Question 16: the signal numbers are at most a. Of another line only the operation is read.
 pub fn over_signals(r: &[u16], a: u16) -> bool
-    requires { ⌜ T (Rules.q15 Rules.lent (now r)) ⌝ }
     ensures { λ b. ⌜ b ≡ Rules.overSignals Rules.lent a (now (r .entry)) ⌝ }
 {
     let l = rules::lines(r);
     let mut j: u16 = 0;
     while j < l {
         j += 1;
-        if operation(r, j) == SIGNAL {
-            let decoded = decode(r, j);
-            let Decoded::Formed(line) = decoded else {
-                return false;
-            };
-            if !signal_most(line, a) {
-                return false;
-            }
+        if !signal_most(r, j, a) {
+            return false;
         }
     }
     true

@@ -17,17 +17,16 @@ use Rattle.truth.specs.Lists.{Lasso}
 
 -- line 0 means the last line
 unfoldable pub asked : List ℕ → ℕ → ℕ
-unfolding lines
 asked R zero = lines R
 asked R (suc j) = suc j
 
 unfoldable pub q18 : List ℕ → List ℕ → ℕ → ℕ → Bool
-unfolding asked within lines nodes lineWord lent
+unfolding asked
 q18 M R j s = within 1 (lines R) (asked R j) && within 1 (nodes M) s && within 3 4 (lineWord lent R (asked R j) 0)
 
 -- `room` is how many pairs the list has space for
 unfoldable pub q19 : List ℕ → List ℕ → ℕ → ℕ → Bool
-unfolding asked nodes stateCount lineWord lent
+unfolding asked
 q19 M R j room = leb (nodes M * stateCount R (lineWord lent R (asked R j) 1)) room
 
 -- the questions that the path call asks: those of both sheets, and its own

@@ -22,7 +22,7 @@ abbrev sheet1 : tie.Else1 → List ℕ
 sheet1 c = c .before .before .before .args .r .now
 
 after-records : (c : tie.Else1) {n : ℕ} → Finds (later (sheet1 c)) n → n ≡ ruleRefusal lent (sheet1 c)
-unfolding ruleRefusal ruleQuestions
+unfolding ruleQuestions
 after-records c f =
     let R = sheet1 c in
     sym (found (ruleQuestions lent R)
@@ -46,7 +46,7 @@ records-refusal-requires : tie.Need-records-refusal-requires
 records-refusal-requires c κs = search needs
 
 returns : tie.Need-returns
-unfolding ruleRefusal ruleQuestions
+unfolding ruleQuestions
 returns c =
     let R = c .before .before .before .args .r .now in
     sym (found (ruleQuestions lent R) (part-returned (recordQuestions lent R) (later R) _ (c .before .records-refusal .ensures) (c .if1 .taken)))

@@ -4,10 +4,10 @@ use Prim.Native.Nat.{ℕ}
 use mathlib.Core.List.{List, _++_}
 use borrow.Author.Needs.{needs}
 use Rattle.sheets.specs.Questions.{Question}
-use Rattle.sheets.specs.Machine.{machineQuestions, machineRefusal}
-use Rattle.sheets.specs.Rules.{lent, ruleQuestions, ruleRefusal}
+use Rattle.sheets.specs.Machine.{machineQuestions}
+use Rattle.sheets.specs.Rules.{lent, ruleQuestions}
 use Rattle.sheets.specs.Sheets.{sheetQuestions}
-use Rattle.sheets.proofs.Questions.{rule-answers, Finds, none, found, went-on, returned, part-returned, part-went-on}
+use Rattle.sheets.proofs.Questions.{Finds, none, found, went-on, returned, part-returned, part-went-on}
 use Rattle.sheets.proofs.SheetTable.{machine-numbered, rules-numbered, signalQuestion}
 use Rattle.sheets.proofs.checks.sheets_refusal.Statement.{statement}
 use Rattle.sheets.proofs.checks.sheets_refusal.Tie as tie
@@ -21,7 +21,7 @@ abbrev start1 : tie.Else1 → tie.Start
 start1 c = search
 
 after-machine : (c : tie.Else1) {n : ℕ} → Finds (later (start1 c .args .m .now) (start1 c .args .r .now)) n → Finds (sheetQuestions (start1 c .args .m .now) (start1 c .args .r .now)) n
-unfolding sheetQuestions machineRefusal
+unfolding sheetQuestions
 after-machine c f =
     let a = start1 c .args in
     part-went-on (machineQuestions 1 (a .m .now)) (later (a .m .now) (a .r .now)) _ (c .before .machine-refusal .ensures) (machine-numbered 1 (a .m .now)) (c .if1 .left) f
@@ -30,7 +30,6 @@ abbrev start2 : tie.Else2 → tie.Start
 start2 c = start1 (c .before .before)
 
 after-rules : (c : tie.Else2) {n : ℕ} → Finds (signalQuestion (start2 c .args .m .now) (start2 c .args .r .now)) n → Finds (sheetQuestions (start2 c .args .m .now) (start2 c .args .r .now)) n
-unfolding ruleRefusal
 after-rules c f =
     let a = start2 c .args in
     after-machine (c .before .before)
@@ -40,7 +39,7 @@ machine-refusal-requires : tie.Need-machine-refusal-requires
 machine-refusal-requires c κs = search needs
 
 returns : tie.Need-returns
-unfolding sheetQuestions machineRefusal
+unfolding sheetQuestions
 returns c =
     let at-start : tie.Start = search in let a = at-start .args in
     sym (found (sheetQuestions (a .m .now) (a .r .now))
@@ -50,7 +49,6 @@ rule-refusal-requires : tie.Need-rule-refusal-requires
 rule-refusal-requires c κs = search needs
 
 returns-2 : tie.Need-returns-2
-unfolding ruleRefusal
 returns-2 c =
     let a = start1 (c .before .before) .args in
     sym (found (sheetQuestions (a .m .now) (a .r .now))
@@ -61,7 +59,7 @@ signals-requires : tie.Need-signals-requires
 signals-requires c κs = search needs
 
 over-signals-requires : tie.Need-over-signals-requires
-over-signals-requires c κs = let rules = c .before .before in rule-answers lent _ (sym (rules .rule-refusal .ensures) ∙ c .before .if2 .left) .fifteen
+over-signals-requires c κs = search needs
 
 returns-3 : tie.Need-returns-3
 returns-3 c =

@@ -1,6 +1,5 @@
--- `lines_fit` meets its contract: the two tests of question 15 of an operation on lines, in order.
+-- `lines_fit` meets its contract: the two tests of question 15 of an operation on lines.
 use borrow.Author.Needs.{needs}
-use mathlib.Core.Path.{sym, _∙_}
 use Rattle.sheets.specs.Rules.{operandsFit}
 use Rattle.sheets.proofs.lines.lines_fit.Statement.{statement}
 use Rattle.sheets.proofs.lines.lines_fit.Tie as tie
@@ -16,11 +15,7 @@ unused-requires c κs = search needs
 
 returns : tie.Need-returns
 unfolding operandsFit
-returns c = rw (sym (c .before .before .refers-above .ensures) ∙ c .before .if1 .taken) (c .unused .ensures)
-
-returns-2 : tie.Need-returns-2
-unfolding operandsFit
-returns-2 c = rw (sym (c .before .refers-above .ensures) ∙ c .if1 .left) (c .if1 .left)
+returns c = rw (c .unused .ensures, c .before .refers-above .ensures)
 
 pub lines-fit-spec : {M : Type 1} → statement M
-lines-fit-spec = tie.close (tie.spec refers-above-requires add-unused unused-requires returns returns-2)
+lines-fit-spec = tie.close (tie.spec refers-above-requires add-unused unused-requires returns)

@@ -23,7 +23,7 @@ abbrev μ-loop : tie.MeasureT-loop
 μ-loop r j c k₀ k = 6 - k
 
 returns : tie.Need-returns Inv-loop μ-loop
-unfolding unused lent
+unfolding unused
 returns c = simp (lt-leb _ 6 (c .if1 .taken))
 
 loop-holds : tie.Need-loop-holds Inv-loop μ-loop
@@ -35,7 +35,7 @@ line-word-requires : tie.Need-line-word-requires Inv-loop μ-loop
 line-word-requires c κs = search needs
 
 returns-2 : tie.Need-returns-2 Inv-loop μ-loop
-unfolding unused lent
+unfolding unused
 returns-2 c =
     let else1 : tie.Else1 Inv-loop μ-loop = search in let a = else1 .before .before .args in
     let k = c .before .before .before .loop .k in
@@ -56,7 +56,7 @@ loop-again c =
     (omega arith, omega arith, offset-next (zeroAt (a .r .now) (a .j)) (a .c) k (omega arith) (c .before .before .before .loop .inv .2) f)
 
 returns-3 : tie.Need-returns-3 Inv-loop μ-loop
-unfolding unused lent
+unfolding unused
 returns-3 c =
     let e : c .before .loop .k ≡ 6 = omega arith in
     simp (le-leb _ 6 (c .before .before .if1 .left), rw e at (c .before .loop .inv .2))

@@ -41,7 +41,7 @@ below-power-requires : tie.Need-below-power-requires Inv-loop μ-loop
 below-power-requires c κs = search needs
 
 returns : tie.Need-returns Inv-loop μ-loop
-unfolding q3 startFlag
+unfolding q3
 returns c =
     let turn = c .before .before .before in
     let read = turn .before .before in
@@ -54,7 +54,7 @@ node-word-requires-2 : tie.Need-node-word-requires-2 Inv-loop μ-loop
 node-word-requires-2 c κs = search needs
 
 returns-2 : tie.Need-returns-2 Inv-loop μ-loop
-unfolding q3 startFlag
+unfolding q3
 returns-2 c =
     let if1 = c .before .before in
     let turn = if1 .before .before .before in
@@ -80,7 +80,7 @@ loop-again c =
     each-goes (test (args .f) (args .m .now)) (turn .loop-test .taken) (turn .before .loop .inv) (rw (b, l))
 
 returns-3 : tie.Need-returns-3 Inv-loop μ-loop
-unfolding q3 startFlag
+unfolding q3
 returns-3 c = sym (each-ends _ (c .before .before .before .nodes .ensures) (c .loop-test .left) (c .before .loop .inv))
 
 pub q3-spec : {M : Type 1} → statement M

@@ -40,7 +40,7 @@ within-requires : tie.Need-within-requires Inv-loop μ-loop
 within-requires c κs = search needs
 
 returns : tie.Need-returns Inv-loop μ-loop
-unfolding q4 firstEdge
+unfolding q4
 returns c =
     let turn = c .before .before .before in
     let read = turn .before .before in
@@ -62,7 +62,7 @@ loop-again c =
     each-goes (test (args .f) (args .m .now)) (turn .loop-test .taken) (turn .before .loop .inv) w
 
 returns-2 : tie.Need-returns-2 Inv-loop μ-loop
-unfolding q4 firstEdge
+unfolding q4
 returns-2 c = sym (each-ends _ (c .before .before .before .nodes .ensures) (c .loop-test .left) (c .before .loop .inv))
 
 pub q4-spec : {M : Type 1} → statement M

@@ -41,7 +41,7 @@ within-requires : tie.Need-within-requires Inv-loop μ-loop
 within-requires c κs = search needs
 
 returns : tie.Need-returns Inv-loop μ-loop
-unfolding q5 target nextEdge
+unfolding q5
 returns c =
     let turn = c .before .before .before in
     let read = turn .before .before in
@@ -57,7 +57,7 @@ link-requires : tie.Need-link-requires Inv-loop μ-loop
 link-requires c κs = search needs
 
 returns-2 : tie.Need-returns-2 Inv-loop μ-loop
-unfolding q5 target nextEdge
+unfolding q5
 returns-2 c =
     let if1 = c .before .before .before in
     let turn = if1 .before .before .before in
@@ -83,7 +83,7 @@ loop-again c =
     each-goes (test (args .f) (args .m .now)) (turn .loop-test .taken) (turn .before .loop .inv) (rw (w, l))
 
 returns-3 : tie.Need-returns-3 Inv-loop μ-loop
-unfolding q5 target nextEdge
+unfolding q5
 returns-3 c = sym (each-ends _ (c .before .before .edges .ensures) (c .loop-test .left) (c .before .loop .inv))
 
 pub q5-spec : {M : Type 1} → statement M

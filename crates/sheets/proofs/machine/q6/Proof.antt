@@ -34,7 +34,7 @@ node-word-requires : tie.Need-node-word-requires Inv-loop μ-loop
 node-word-requires c κs = search needs
 
 returns : tie.Need-returns Inv-loop μ-loop
-unfolding q6 startFlag
+unfolding q6
 returns c =
     let turn = c .before .before in
     let read = turn .before .before in
@@ -51,7 +51,7 @@ loop-again c =
     each-goes (test (args .f) (args .m .now)) (turn .loop-test .taken) (turn .before .loop .inv) (eq-eqb _ 0 (sym (c .before .node-word .ensures) ∙ c .if1 .left))
 
 returns-2 : tie.Need-returns-2 Inv-loop μ-loop
-unfolding q6 startFlag
+unfolding q6
 returns-2 c =
     let read = c .before .before in
     rw (each-ends (test (read .before .before .args .f) (read .before .before .args .m .now)) (read .nodes .ensures) (c .loop-test .left) (c .before .loop .inv))

@@ -39,7 +39,7 @@ within-requires : tie.Need-within-requires Inv-loop μ-loop
 within-requires c κs = search needs
 
 returns : tie.Need-returns Inv-loop μ-loop
-unfolding q11 transitionTarget
+unfolding q11
 returns c =
     let turn = c .before .before .before in
     let read = turn .before .before in
@@ -55,7 +55,7 @@ link-requires : tie.Need-link-requires Inv-loop μ-loop
 link-requires c κs = search needs
 
 returns-2 : tie.Need-returns-2 Inv-loop μ-loop
-unfolding q11 transitionTarget
+unfolding q11
 returns-2 c =
     let if1 = c .before .before .before in
     let turn = if1 .before .before .before in
@@ -83,7 +83,7 @@ loop-again c =
     each-goes (test r) (turn .loop-test .taken) (turn .before .loop .inv) (rw (w, l))
 
 returns-3 : tie.Need-returns-3 Inv-loop μ-loop
-unfolding q11 transitionTarget
+unfolding q11
 returns-3 c = sym (each-ends _ (c .before .before .transitions .ensures) (c .loop-test .left) (c .before .loop .inv))
 
 pub q11-spec : {M : Type 1} → statement M

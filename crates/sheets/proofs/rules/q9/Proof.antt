@@ -38,7 +38,7 @@ variables-requires : tie.Need-variables-requires Inv-loop μ-loop
 variables-requires c κs = search needs
 
 returns : tie.Need-returns Inv-loop μ-loop
-unfolding q9 lent fits
+unfolding q9 fits
 returns c =
     let turn = c .before .before in
     let read = turn .before .before in
@@ -53,7 +53,7 @@ within-requires : tie.Need-within-requires Inv-loop μ-loop
 within-requires c κs = search needs
 
 returns-2 : tie.Need-returns-2 Inv-loop μ-loop
-unfolding q9 lent fits
+unfolding q9 fits
 returns-2 c =
     let if1 = c .before .before .before in
     let turn = if1 .before .before in
@@ -79,7 +79,7 @@ loop-again c =
     each-goes (test r) (turn .loop-test .taken) (turn .before .loop .inv) (rw (v, w))
 
 returns-3 : tie.Need-returns-3 Inv-loop μ-loop
-unfolding q9 lent fits
+unfolding q9 fits
 returns-3 c = sym (each-ends _ (c .before .before .before .automata .ensures) (c .loop-test .left) (c .before .loop .inv))
 
 pub q9-spec : {M : Type 1} → statement M
