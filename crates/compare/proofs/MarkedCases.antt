@@ -65,7 +65,7 @@ pub record Marked : Type 0 where
 
 -- end result
 pub marked : Marked
-unfolding nodes signals word
+unfolding word
 marked =
     let m = machine-cases in
     record {

@@ -32,7 +32,7 @@ use Rattle.compare.specs.Program.{lineBytes, refusal, Compared, Printed}
 
 -- a refused machine sheet is refused by one of questions 1 to 6
 one-to-six : (M : List ℕ) → (machineRefusal M ≡ 0 → ⊥) → machineRefusal M ≤ 6
-unfolding machineRefusal machineQuestions
+unfolding machineQuestions
 one-to-six M refused = first-has (λ k i. k ≤ 6) (machineQuestions 1 M) (omega arith) refused
 
 module _ (M₁ M₂ : List ℕ) where
@@ -165,7 +165,7 @@ files-compared first second even₁ even₂ ok₁ ok₂ line p =
 -- ---- the marked case (a): M1, M2 equal; the program prints exactly `equal`
 
 pub case-a : (line : Line) → Printed (bytesOf (M1 ++ M2)) line → text line ≡ lineBytes Equal
-unfolding bytesOf signals nodes word
+unfolding bytesOf word
 case-a line p =
     let one = input-cases .case-a-first in
     let two = input-cases .case-a-second in

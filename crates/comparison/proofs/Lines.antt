@@ -5,7 +5,7 @@ use native.Mathlib.Omega.{arith}
 use mathlib.Core.List.{List, [], _∷_, _++_, append-assoc, append-nil}
 use lib.ListN.{length, getD, replicate, length-append, List·getD-append}
 use lib.Seq.{getD-append-add}
-use Rattle.truth.specs.Passed.{Line, signal, negation, either, somePath, lifted, lines, lineWord, line, lineOf, lineWords, nextHead}
+use Rattle.truth.specs.Passed.{Line, signal, negation, either, somePath, lifted, lines, lineWord, line, lineOf, lineWords, nextHead, word, recordWord}
 use Rattle.comparison.specs.Comparison.{ruleHead}
 use Rattle.comparison.specs.inner.Lines.{Entry, sig, neg, alt, next, words, writtenWords, sheet, entry}
 
@@ -43,7 +43,7 @@ unfolding sheet
 length-sheet ls = omega (arith, length-writtenWords ls)
 
 pub lines-are : (ls : List Entry) → lines (sheet ls) ≡ length ls
-unfolding lines sheet
+unfolding word sheet
 lines-are ls = refl
 
 -- zeros at the end of a list of words
@@ -70,7 +70,7 @@ word-of-line (l ∷ ls) (suc i) k h =
 
 module _ (ls : List Entry) (j : ℕ) where
   pub word-is : (l : Entry) → entry ls j ≡ l → (k : ℕ) → k < lineWords → lineWord (lifted lineWords) (sheet ls) j k ≡ getD (words l) k 0
-  unfolding lineWord lifted sheet entry
+  unfolding recordWord lifted sheet entry
   word-is l e k h =
       let at : nextHead + lineWords * (j - 1) + k ≡ nextHead + (lineWords * (j - 1) + k) = omega arith in
       ap (λ (n : ℕ). getD (ruleHead (length ls) ++ writtenWords ls) n 0) at

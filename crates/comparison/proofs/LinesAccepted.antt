@@ -6,7 +6,7 @@ use mathlib.Core.List.{List, [], _∷_}
 use mathlib.Core.Bool.{Bool, _&&_, and-true}
 use lib.ListN.{length, getD}
 use lib.Dec.{T, leb, le→leb, eqb, eqb-refl}
-use Rattle.truth.specs.Passed.{lent, lifted, within, each, variables, automata, lines, lineWord, lineFits, pathFits, refersAbove, unused, line, ruleRefusal, signalMost, overSignals, q7, q8, q9, q10, q11, q12, q13, q14, q15, signalsMost, linesMost, lineWords, nextHead}
+use Rattle.truth.specs.Passed.{lent, lifted, within, each, variables, automata, lineWord, lineFits, pathFits, refersAbove, unused, line, ruleRefusal, signalMost, overSignals, q7, q8, q9, q10, q11, q12, q13, q14, q15, signalsMost, linesMost, lineWords, nextHead, word, recordWord, chain}
 use Rattle.comparison.specs.Comparison.{Rule}
 use Rattle.truth.proofs.Passed.{and-both, within-in, each-in, rule-accepted, fifteen-same, over-same}
 use Rattle.comparison.specs.inner.Lines.{Entry, sig, neg, alt, next, words, sheet, entry, Refers, Downward}
@@ -30,7 +30,7 @@ module _ (ls : List Entry) (j : ℕ) where
   path-fits x = within 1 (automata (sheet ls)) x && refersAbove (lifted lineWords) (sheet ls) j 1 (variables (sheet ls) x) && unused (lifted lineWords) (sheet ls) j (2 + variables (sheet ls) x)
 
   next-fits : (i : ℕ) → entry ls j ≡ next i → 1 ≤ i → i < j → T (path-fits 1)
-  unfolding path-fits automata variables refersAbove within sheet words
+  unfolding path-fits recordWord refersAbove sheet words
   next-fits i e lo hi =
       and-both (refersAbove (lifted lineWords) (sheet ls) j 1 1) (unused (lifted lineWords) (sheet ls) j 3) (above-word (next i) e 2 (omega arith) lo hi)
       (unused-is (next i) e 3 (omega arith) (padded (3 ∷ 1 ∷ i ∷ []) 3))
@@ -67,13 +67,13 @@ module _ (ls : List Entry) (j : ℕ) where
 
 module _ (a : ℕ) (ls : List Entry) (down : Downward a ls) where
   over-logic : T (overSignals (lifted lineWords) a (sheet ls))
-  unfolding overSignals lines sheet
+  unfolding overSignals word sheet
   over-logic =
       each-in (length ls) (λ j. signalMost a (line (lifted lineWords) (sheet ls) j))
       (λ j lo hi. subst (λ l. T (signalMost a l)) (sym (line-is ls j)) (over-by ls j _ a (entry ls j) (down .refers j lo hi)))
 
   fifteen-logic : T (q15 (lifted lineWords) (sheet ls))
-  unfolding q15 lines sheet
+  unfolding q15 word sheet
   fifteen-logic =
       each-in (length ls) (λ j. lineFits (lifted lineWords) (sheet ls) j (lineWord (lifted lineWords) (sheet ls) j 0))
       (λ j lo hi. fits-line ls j a (down .few) (down .refers j lo hi))
@@ -88,7 +88,7 @@ module _ (a : ℕ) (ls : List Entry) (down : Downward a ls) where
 
     -- as a rule of the logic, whatever its length
     pub accepted : ruleRefusal (lifted lineWords) (sheet ls) ≡ 0
-    unfolding q7 q8 q9 q10 q11 q12 q13 q14 sheet lifted
+    unfolding q7 q8 q9 q10 q11 q12 q13 q14 chain recordWord sheet lifted
     accepted = rule-accepted (lifted lineWords) (sheet ls) (record {
       seven = simp and-true sized;
       eight = size;
@@ -106,7 +106,7 @@ module _ (a : ℕ) (ls : List Entry) (down : Downward a ls) where
 
     -- as a lent sheet, if it has at most as many lines as one
     pub accepted-lent : length ls ≤ linesMost → ruleRefusal lent (sheet ls) ≡ 0
-    unfolding q7 q8 q9 q10 q11 q12 q13 q14 sheet lent
+    unfolding q7 q8 q9 q10 q11 q12 q13 q14 chain recordWord sheet
     accepted-lent few = rule-accepted lent (sheet ls) (record {
       seven = simp and-true (and-both (leb 4 (length (sheet ls)) && leb 1 (length ls)) (leb (length ls) linesMost) sized (le→leb (length ls) linesMost few));
       eight = size;

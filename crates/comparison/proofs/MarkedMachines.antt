@@ -5,7 +5,7 @@ use Prim.Native.Nat.{ℕ, zero, suc, _≤_}
 use native.Mathlib.Omega.{arith}
 use mathlib.Core.List.{List, [], _∷_}
 use mathlib.Core.Bool.{Bool, not}
-use Rattle.truth.specs.Passed.{M1, M2, M3, M5, M6, kripke, nodes, signals, edges, signalAt, startFlag, target, edgesOf, word, bit, each, within, anyOf, chain, machineRefusal}
+use Rattle.truth.specs.Passed.{M1, M2, M3, M5, M6, kripke, recordWord, bit, each, anyOf, chain, machineRefusal}
 use Rattle.truth.specs.inner.Rows.{leadsInto}
 use Rattle.truth.proofs.Passed.{machine-cases}
 use Rattle.comparison.specs.Comparison.{Equal}
@@ -18,11 +18,11 @@ use Rattle.comparison.proofs.ToldByLines.{told}
 -- ---- (a), (d)
 
 pub case-a : Equal M1 M2
-unfolding kripke nodes signals signalAt startFlag word bit each within
+unfolding kripke recordWord bit each
 case-a = one-block M1 M2 (machine-cases .m1) (machine-cases .m2) refl tt tt 1 tt 1 tt
 
 pub case-d : Equal M1 M1
-unfolding kripke nodes signals signalAt startFlag word bit each within
+unfolding kripke recordWord bit each
 case-d = one-block M1 M1 (machine-cases .m1) (machine-cases .m1) refl tt tt 1 tt 1 tt
 
 -- ---- (b), (c)
@@ -81,13 +81,13 @@ module _ (M : List ℕ) (ok : machineRefusal M ≡ 0) where
       (exact-sig M ok 2 everyNext every-down 1 (omega arith) (omega arith) 1 refl))))
 
 pub case-b : Equal M1 M3 → ⊥
-unfolding kripke nodes signals edges edgesOf target signalAt startFlag word bit each within anyOf chain leadsInto
+unfolding kripke recordWord bit each anyOf chain leadsInto
 case-b =
     told M1 M3 someNext some-down (omega arith) (someSet M1 (machine-cases .m1)) (someSet M3 (machine-cases .m3)) (some-exact M1 (machine-cases .m1)) (some-exact M3 (machine-cases .m3))
     tt 1 tt tt
 
 pub case-c : Equal M5 M6 → ⊥
-unfolding kripke nodes signals edges edgesOf target signalAt startFlag word bit each within anyOf chain leadsInto
+unfolding kripke recordWord bit each anyOf chain leadsInto
 case-c =
     told M5 M6 everyNext every-down (omega arith) (everySet M5 (machine-cases .m5)) (everySet M6 (machine-cases .m6)) (every-exact M5 (machine-cases .m5)) (every-exact M6 (machine-cases .m6))
     tt 1 tt tt

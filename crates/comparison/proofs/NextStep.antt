@@ -6,7 +6,7 @@ use native.Mathlib.Omega.{arith}
 use mathlib.Core.List.{List}
 use mathlib.Core.Bool.{false, _||_}
 use lib.Dec.{T, eqb, eqb→eq, eqb-refl}
-use Rattle.truth.specs.Passed.{Automaton, bit, kripke, nodes, automaton, machineRefusal}
+use Rattle.truth.specs.Passed.{Automaton, bit, kripke, nodes, automaton, machineRefusal, chain, recordWord}
 use Rattle.truth.specs.Truth.{Truths, Valuation, SomePath}
 use Rattle.truth.proofs.Passed.{or-cases, or-left, firstNext, first-edge, edge-stays}
 use Rattle.truth.proofs.Valuations.{valued}
@@ -37,7 +37,7 @@ module _ (ls : List Entry) where
   always p r a b (suc (suc w)) q h = absurd (omega arith)
 
   pub is-next : IsNext (automaton (sheet ls) 1)
-  unfolding automaton sheet
+  unfolding automaton chain recordWord sheet
   is-next = record {
     one = refl;
     begin = refl;

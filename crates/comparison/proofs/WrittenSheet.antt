@@ -5,7 +5,7 @@ use native.Mathlib.Omega.{arith}
 use mathlib.Core.List.{List, _++_}
 use lib.ListN.{length, take, drop}
 use lib.Dec.{T}
-use Rattle.truth.specs.Passed.{nodes, signals, lines, lent, overSignals, machineRefusal, nodesMost, nextHead, linesWritten}
+use Rattle.truth.specs.Passed.{nodes, signals, lines, lent, overSignals, machineRefusal, nodesMost, nextHead, linesWritten, word}
 use Rattle.truth.proofs.Passed.{signals-sized}
 use Rattle.truth.proofs.labelling.LabelTable.{label-accepts}
 use Rattle.comparison.specs.Comparison.{Written, ToldApart, ruleHead}
@@ -14,7 +14,7 @@ use Rattle.comparison.proofs.Lines.{lines-are}
 use Rattle.comparison.proofs.LinesAccepted.{accepted-lent, over-signals}
 
 head-is : (ls : List Entry) → take nextHead (sheet ls) ≡ ruleHead (lines (sheet ls))
-unfolding sheet lines
+unfolding word sheet
 head-is ls = refl
 
 pub written : (M₁ M₂ : List ℕ) → machineRefusal M₁ ≡ 0 → machineRefusal M₂ ≡ 0 → signals M₁ ≡ signals M₂ → nodes M₁ + nodes M₂ ≤ nodesMost → (ls : List Entry) → Downward (signals M₁) ls

@@ -22,12 +22,12 @@ Agreed M₁ M₂ L R = (Keeps (lifted L) M₁ R × Keeps (lifted L) M₂ R) ⊎ 
 
 -- equal: every rule of the logic over the signals is kept by both or by neither
 unfoldable pub Equal : List ℕ → List ℕ → Type 0
-unfolding Agreed signals
+unfolding Agreed
 Equal M₁ M₂ = (L : ℕ) (R : List ℕ) → Rule (signals M₁) L R → Agreed M₁ M₂ L R
 
 -- exactly one of the two keeps the rule on a lent sheet
 unfoldable pub ToldApart : List ℕ → List ℕ → List ℕ → Type 0
-unfolding Keeps lent
+unfolding Keeps
 ToldApart M₁ M₂ R = (Keeps lent M₁ R × (Keeps lent M₂ R → ⊥)) ⊎ ((Keeps lent M₁ R → ⊥) × Keeps lent M₂ R)
 
 -- the automaton Next: its state and edge records
@@ -43,7 +43,6 @@ ruleHead l = 1 ∷ 4 ∷ 5 ∷ l ∷ 1 ∷ 1 ∷ nextWords
 -- questions 20 to 22, of a space of so many words: "Are both a equal?", "Do the nodes sum to at most 128?", "Has the rule space at least
 -- 33 + 6 × (a + 7N) words?"
 unfoldable pub compareQuestions : List ℕ → List ℕ → ℕ → List Question
-unfolding signals nodes
 compareQuestions M₁ M₂ space =
     ask 20 0 (eqb (signals M₁) (signals M₂)) ∷ ask 21 0 (leb (nodes M₁ + nodes M₂) nodesMost)
     ∷ ask 22 0 (leb (ruleSpace (signals M₁) (nodes M₁ + nodes M₂)) space) ∷ []

@@ -9,7 +9,7 @@ use lib.Dec.{eqb→eq}
 use Rattle.sheets.specs.Format.{linesMost, lineWords, nextHead}
 use Rattle.sheets.specs.Words.{word}
 use Rattle.sheets.specs.Questions.{Refusal, none as noRefusal, firstNo}
-use Rattle.sheets.specs.Rules.{lent, automata, states, transitions, lines, q8}
+use Rattle.sheets.specs.Rules.{lent, lines, q8}
 use Rattle.sheets.proofs.Questions.{rule-answers}
 use Rattle.sheets.proofs.AcceptedMachine.{signals-sized}
 use Rattle.truth.specs.Sizes.{rowWords}
@@ -26,13 +26,13 @@ module _ (M₁ M₂ R before after : List ℕ) (w : Written M₁ M₂ R before a
   head-word i h = sym (getD-take nextHead R i 0 (omega arith)) ∙ ap (λ (l : List ℕ). getD l i 0) (w .head)
 
   rule-length : length R ≡ nextHead + lineWords * lines R
-  unfolding q8 lent automata states transitions
+  unfolding q8 word
   rule-length =
       let e = eqb→eq (length R) _ (rule-answers lent R (w .accepted) .eight) in
       omega (arith, e, head-word 0 (omega arith), head-word 1 (omega arith), head-word 2 (omega arith))
 
   lines-after : lines after ≡ lines R
-  unfolding lines word
+  unfolding word
   lines-after =
       ap (λ (l : List ℕ). getD l 3 0) (w .stands) ∙ List·getD-append R (drop (length R) before) 0 3 (omega (arith, rule-length))
 

@@ -44,15 +44,12 @@ module _ (first second : List ℕ) (one : q1 first ≡ true) (two : q2 plain fir
   same-word k h = let long = three in List·getD-append first second 0 k (omega arith)
 
   same-nodes : nodes (first ++ second) ≡ nodes first
-  unfolding nodes
   same-nodes = same-word 0 (omega arith)
 
   same-signals : signals (first ++ second) ≡ signals first
-  unfolding signals
   same-signals = same-word 1 (omega arith)
 
   same-edges : edges (first ++ second) ≡ edges first
-  unfolding edges
   same-edges = same-word 2 (omega arith)
 
   same-end : headerEnd (first ++ second) ≡ length first

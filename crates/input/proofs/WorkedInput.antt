@@ -3,8 +3,8 @@ use mathlib.Core.Path.{_≡_, refl}
 use Prim.Native.Nat.{ℕ, _+_, _*_, _/_, _%_}
 use native.Mathlib.Omega.{arith}
 use mathlib.Core.List.{List, [], _∷_, _++_}
-use Rattle.sheets.specs.Words.{word, within}
-use Rattle.sheets.specs.Machine.{nodes, signals, edges, q1}
+use Rattle.sheets.specs.Words.{word}
+use Rattle.sheets.specs.Machine.{q1}
 use Rattle.sheets.specs.Worked.{M1, M2}
 use Rattle.input.specs.Bytes.{wordOf, wordsOf, bytesOf}
 use Rattle.input.specs.Cut.{firstEnd, firstSheet, secondSheet}
@@ -27,5 +27,5 @@ pub record InputCases : Type 0 where
   pub two : refusedLine 22 0 ≡ 114 ∷ 101 ∷ 102 ∷ 117 ∷ 115 ∷ 101 ∷ 100 ∷ 32 ∷ 50 ∷ 50 ∷ 32 ∷ 48 ∷ 10 ∷ []
 
 pub input-cases : InputCases
-unfolding refusedLine decimal digits bytesOf wordsOf firstSheet secondSheet firstEnd q1 nodes signals edges word within
+unfolding refusedLine decimal digits bytesOf wordsOf firstSheet secondSheet firstEnd q1 word
 input-cases = record { case-a-first = refl; case-a-second = refl; five = refl; two = refl }

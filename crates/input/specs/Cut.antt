@@ -17,7 +17,7 @@ headerEnd words = machineLength (nodes words) (edges words)
 
 -- "if question 1 says yes and the words reach that far, else all words are the first sheet"
 unfoldable pub firstEnd : List ℕ → ℕ
-unfolding q1 nodes edges
+unfolding q1
 firstEnd words = cond (q1 words && leb (headerEnd words) (length words)) (headerEnd words) (length words)
 
 -- the two sheets

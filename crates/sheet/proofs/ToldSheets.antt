@@ -98,10 +98,10 @@ module _ (sort : Sort) (bytes : List ℕ) where
 
 pub machine-accepted : (bytes : List ℕ) (told : Told·.Told) → Told Machine false bytes told
     → (text (told .line) ≡ checkLine Accepted) ↔ ((readable sheetsBytes (length bytes) ≡ true) × (machineRefusal (wordsOf bytes) ≡ 0))
-unfolding questions machineRefusal
+unfolding questions
 machine-accepted bytes told h = accepted-exactly Machine bytes told h
 
 pub rules-accepted : (bytes : List ℕ) (told : Told·.Told) → Told Rules false bytes told
     → (text (told .line) ≡ checkLine Accepted) ↔ ((readable sheetsBytes (length bytes) ≡ true) × (ruleRefusal lent (wordsOf bytes) ≡ 0))
-unfolding questions ruleRefusal
+unfolding questions
 rules-accepted bytes told h = accepted-exactly Rules bytes told h

@@ -26,7 +26,7 @@ use Rattle.sheet.specs.declared.answer.Told as Told·
 
 -- the questions that are put to a sheet's words
 unfoldable pub questions : Sort → List ℕ → List Question
-unfolding machineQuestions lent ruleQuestions
+unfolding machineQuestions ruleQuestions
 questions Machine words = machineQuestions 1 words
 questions Rules words = ruleQuestions lent words
 

@@ -44,12 +44,10 @@ module _ (F : Form) (R : List ℕ) (accepted : ruleRefusal F R ≡ 0) where
 
     -- its initial state is among its states
     pub initial-on : T (member (initial R x) (statesOf R x))
-    unfolding statesOf
     initial-on = let h = initial-in in chain-first (states R) (λ q. stateWord R q nextStatePlace) (initial R x) (omega arith) (h .0)
 
     -- which is the first on its chain
     pub first-state : getD (statesOf R x) 0 0 ≡ initial R x
-    unfolding statesOf
     first-state = let h = initial-in in chain-head (states R) (λ q. stateWord R q nextStatePlace) (initial R x) (omega arith) (h .0)
 
     -- it stays on them, along edges with nonzero masks

@@ -43,11 +43,11 @@ fitting R x q = transitionsFit R (variables R x) (statesOf R x) (transitionsOf R
 
 module _ (R : List ℕ) (x : ℕ) {n : ℕ} (counted : n ≡ length (statesOf R x)) where
   pub fits-if-few : n ≤ chainedMost → automatonFits lent R x ≡ allOf (statesOf R x) (fitting R x)
-  unfolding automatonFits lent fits
+  unfolding automatonFits fits
   fits-if-few h = rw (le-leb (length (statesOf R x)) chainedMost (rw counted at h))
 
   pub unfit-if-many : chainedMost < n → automatonFits lent R x ≡ false
-  unfolding automatonFits lent fits
+  unfolding automatonFits fits
   unfit-if-many h = rw (lt-leb (length (statesOf R x)) chainedMost (rw counted at h))
 
 -- the list that was read, of at most 16
@@ -109,6 +109,6 @@ module _ (p : ℕ → Bool) (f x : ℕ) (next : ℕ → ℕ) (all : Numbers) (li
 
 -- the variables that question 9 has bounded
 pub few-variables : (R : List ℕ) (x : ℕ) → T (q9 lent R) → 1 ≤ x → x ≤ automata R → variables R x ≤ variablesMost
-unfolding q9 lent fits
+unfolding q9 fits
 few-variables R x t lo hi =
     leb→le (variables R x) 4 (and-left (fits (most variablesMost) (variables R x)) (within 1 (states R) (initial R x)) (each-at (automata R) _ t x lo hi))

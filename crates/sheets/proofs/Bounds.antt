@@ -9,7 +9,6 @@ use Rattle.sheets.specs.Words.{within}
 
 -- from 1 to one below j
 pub within-below : (j x : ℕ) → (ltb 0 x && ltb x j) ≡ within 1 (j - 1) x
-unfolding within
 within-below zero zero = refl
 within-below zero (suc x) = rw (leb·suc-zero (suc x), leb·suc-zero x)
 within-below (suc j) x = let e : suc j - 1 ≡ j = omega arith in rw (leb·suc-suc x j, e)

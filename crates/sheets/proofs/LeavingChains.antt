@@ -263,7 +263,7 @@ module _ (read : ℕ → ℕ → ℕ) (left x : ℕ) (a r : Leaving) (few : a .n
 pub leaves-along : (R : List ℕ) (q base x left : ℕ) (a r : Leaving) → base ≡ transitionsFrom (automata R) (states R) → x ≡ stateWord R q firstTransitionPlace → left ≡ transitions R → a .n ≤ chainedMost → length (a .states) ≡ chainedMost
     → ((k : ℕ) → getD (a .masks) k 0 ≡ 0) → a .met ≡ 0 → a .led ≡ 0 → a .once ≡ 0 → a .twice ≡ 0 → a .fits ≡ true
     → Along LeavingTaken (records (recordWord R base transitionWords) transitionWords left x) a r → Leaves R (a .states) (a .n) q r
-unfolding recordWord transitionWord transitionsOf mask transitionTarget transitionsFit leads
+unfolding recordWord transitionsFit leads
 leaves-along R q base x left a r eb ex el few room no-masks no-met no-led no-once no-twice fresh along =
     let read = transitionWord R in
     let ways : Along LeavingTaken (records read transitionWords (transitions R) (stateWord R q firstTransitionPlace)) a r = rw (eb, ex, el) at along in

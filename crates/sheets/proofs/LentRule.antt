@@ -15,34 +15,34 @@ use Rattle.sheets.proofs.Questions.{rule-answers, rule-accepted}
 
 module _ (R : List ℕ) where
   lift-seven : T (q7 lent R) → T (q7 (lifted lineWords) R)
-  unfolding q7 lent lifted
+  unfolding q7 lifted
   lift-seven t =
       simp and-true
       (and-both (leb ruleHeader (length R)) (leb 1 (lines R)) (search (and-left, t) depth 8) (search (and-left, and-right, t)))
 
   lift-nine : T (q9 lent R) → T (q9 (lifted lineWords) R)
-  unfolding q9 lent lifted
+  unfolding q9 lifted
   lift-nine t = each-map (automata R) _ _ (λ x. and-right (fits (most variablesMost) (variables R x)) (within 1 (states R) (initial R x))) t
 
   lift-twelve : T (q12 lent R) → T (q12 (lifted lineWords) R)
-  unfolding q12 automatonFits lent lifted
+  unfolding q12 automatonFits lifted
   lift-twelve t =
       each-map (automata R) _ _ (λ x. and-right (fits (most chainedMost) (length (statesOf R x)))
       (allOf (statesOf R x) (λ q. transitionsFit R (variables R x) (statesOf R x) (transitionsOf R q)))) t
 
   operands-same : (j : ℕ) (o : Operands) → operandsFit lent R j o ≡ operandsFit (lifted lineWords) R j o
-  unfolding operandsFit pathFits lent lifted
+  unfolding operandsFit pathFits lifted
   operands-same j oneSignal = refl
   operands-same j (linesAbove n) = refl
   operands-same j automatonWithLines = refl
   operands-same j noOperands = refl
 
   pub fifteen-same : q15 lent R ≡ q15 (lifted lineWords) R
-  unfolding q15 lineFits lent lifted
+  unfolding q15 lineFits lifted
   fifteen-same = ap (each (lines R)) (fun-ext (λ j. operands-same j (operation (lineWord lent R j 0) .operands)))
 
   pub lifts : ruleRefusal lent R ≡ 0 → ruleRefusal (lifted lineWords) R ≡ 0
-  unfolding q8 q10 q11 q13 q14 lent lifted
+  unfolding q8 q10 q11 q13 q14 lifted
   lifts e =
       let a = rule-answers lent R e in
       rule-accepted (lifted lineWords) R (record {
@@ -58,9 +58,9 @@ module _ (R : List ℕ) where
       })
 
   pub line-same : line lent R ≡ line (lifted lineWords) R
-  unfolding line lineOf lent lifted
+  unfolding line lineOf lifted
   line-same = refl
 
   pub over-same : (a : ℕ) → overSignals lent a R ≡ overSignals (lifted lineWords) a R
-  unfolding overSignals line lineOf lent lifted
+  unfolding overSignals line lineOf lifted
   over-same a = refl

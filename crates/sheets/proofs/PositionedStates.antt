@@ -82,27 +82,22 @@ module _ (F : Form) (R : List ℕ) (accepted : ruleRefusal F R ≡ 0) (x : ℕ) 
   st = stateOf R x
 
   on-chain : (q : ℕ) → OneTo n q → T (member (st q) all)
-  unfolding stateCount stateOf
   on-chain q h = place-in all (q - 1) (omega arith)
 
   -- a state on the chain has a position, and only one
   position : (r : ℕ) → T (member r all) → (q : ℕ) × OneTo n q × (st q ≡ r)
-  unfolding stateCount stateOf
   position r m =
       let l = place-of all r m in
       let e : l .0 + 1 - 1 ≡ l .0 = omega arith in
       (l .0 + 1, (omega arith, omega (arith, l .1)), rw e (l .2))
 
   same-position : (p q : ℕ) → OneTo n p → OneTo n q → st p ≡ st q → p ≡ q
-  unfolding stateCount stateOf
   same-position p q h k e = omega (arith, one-position F R accepted x lo hi (p - 1) (q - 1) (omega arith) (omega arith) e)
 
   first : st 1 ≡ initial R x
-  unfolding stateOf
   first = first-state F R accepted x lo hi
 
   some-state : 1 ≤ n
-  unfolding stateCount
   some-state = omega (arith, place-of all (initial R x) (initial-on F R accepted x lo hi) .1)
 
   -- question 13: one transition out of q is taken under w
@@ -190,7 +185,6 @@ positioned-first R x = refl
 
 module _ (R : List ℕ) (accepted : ruleRefusal lent R ≡ 0) (x : ℕ) (lo : 1 ≤ x) (hi : x ≤ automata R) where
   pub few-positions : stateCount R x ≤ chainedMost
-  unfolding stateCount
   few-positions = few-states R x (rule-answers lent R accepted .twelve) lo hi
 
   pub few-valued : positioned R x .variables ≤ variablesMost

@@ -57,7 +57,7 @@ module _ (R : List ℕ) (x : ℕ) (a : ByPosition) (all : Numbers) (listed : Lis
   pub tabled : a .variables ≡ variables R x → a .count ≡ all .count → a .numbers ≡ all .numbers
       → ((i : ℕ) → bit (a .accepting) i ≡ (ltb i (all .count) && accepting R (getD (all .numbers) i 0)))
       → From R (all .numbers) (all .count) (all .count) (a .masks) → Tabled (positioned R x) (stateCount R x) (stateOf R x) a
-  unfolding positioned automaton stateCount stateOf
+  unfolding positioned automaton
   tabled ev ec en accepts goes = record {
     variables = ev;
     count = ec ∙ listed .count;

@@ -154,11 +154,11 @@ pub record MachineAnswers (F : NodeForm) (M : List ℕ) : Type 0 where
   pub six : T (q6 F M)
 
 pub machine-accepted : (M : List ℕ) → MachineAnswers plain M → machineRefusal M ≡ 0
-unfolding machineRefusal machineQuestions
+unfolding machineQuestions
 machine-accepted M a = none-refuses (machineQuestions 1 M) (a .one, (a .two, (a .three, (a .four, (a .five, (a .six, tt))))))
 
 pub machine-answers : (M : List ℕ) → machineRefusal M ≡ 0 → MachineAnswers plain M
-unfolding machineRefusal machineQuestions
+unfolding machineQuestions
 machine-answers M e =
     let h = all-yes (machineQuestions 1 M) e in
     record {
@@ -184,13 +184,13 @@ pub record RuleAnswers (F : Form) (R : List ℕ) : Type 0 where
   pub fifteen : T (q15 F R)
 
 pub rule-accepted : (F : Form) (R : List ℕ) → RuleAnswers F R → ruleRefusal F R ≡ 0
-unfolding ruleRefusal
+unfolding ruleQuestions
 rule-accepted F R a =
     none-refuses (ruleQuestions F R)
     (a .seven, (a .eight, (a .nine, (a .ten, (a .eleven, (a .twelve, (a .thirteen, (a .fourteen, (a .fifteen, tt)))))))))
 
 pub rule-answers : (F : Form) (R : List ℕ) → ruleRefusal F R ≡ 0 → RuleAnswers F R
-unfolding ruleRefusal
+unfolding ruleQuestions
 rule-answers F R e =
     let h = all-yes (ruleQuestions F R) e in
     record {

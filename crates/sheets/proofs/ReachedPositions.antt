@@ -121,7 +121,7 @@ module _ (R all : List ℕ) (n set : ℕ) (rows reach : List ℕ) (size : n ≡ 
 
 -- question 12 leaves at most 16 positions
 pub few-states : (R : List ℕ) (x : ℕ) → T (q12 lent R) → 1 ≤ x → x ≤ automata R → length (statesOf R x) ≤ chainedMost
-unfolding q12 automatonFits lent fits
+unfolding q12 automatonFits fits
 few-states R x t lo hi =
     leb→le (length (statesOf R x)) chainedMost
     (and-left (leb (length (statesOf R x)) chainedMost)

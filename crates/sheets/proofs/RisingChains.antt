@@ -67,7 +67,7 @@ module _ (m : ℕ) (next : ℕ → ℕ) (rising : Rising m next) where
 
 -- the links of an accepted machine's edges
 pub edges-rise : (M : List ℕ) → machineRefusal M ≡ 0 → Rising (edges M) (nextEdge M)
-unfolding q5 nextEdge
+unfolding q5
 edges-rise M accepted x lo hi =
     link-rises (edges M) x (nextEdge M x) (search (and-right, each-at (edges M) _ (machine-answers M accepted .five) x lo hi))
 
@@ -79,7 +79,6 @@ module _ (F : Form) (R : List ℕ) (accepted : ruleRefusal F R ≡ 0) (x : ℕ) 
       link-rises (states R) q (stateWord R q 2) (search (and-right, each-at (states R) _ (rule-answers F R accepted .ten) q a b))
 
   rises-at : (a b : ℕ) → a < b → b < length (statesOf R x) → getD (statesOf R x) a 0 < getD (statesOf R x) b 0
-  unfolding statesOf
   rises-at a b l k = chain-rises (states R) (λ q. stateWord R q 2) links-rise (states R) (initial R x) a b (initial-in F R accepted x lo hi .1) l k
 
   pub one-position : (a b : ℕ) → a < length (statesOf R x) → b < length (statesOf R x) → getD (statesOf R x) a 0 ≡ getD (statesOf R x) b 0 → a ≡ b

@@ -19,11 +19,9 @@ le-or-gt i n = by-cases (decLe i n) inl (λ h. inr (omega arith))
 -- ---- from `lo` to `hi`
 
 pub within-at : (lo hi x : ℕ) → T (within lo hi x) → (lo ≤ x) × (x ≤ hi)
-unfolding within
 within-at lo hi x t = (leb→le lo x (and-left (leb lo x) (leb x hi) t), leb→le x hi (and-right (leb lo x) (leb x hi) t))
 
 pub within-in : (lo hi x : ℕ) → lo ≤ x → x ≤ hi → T (within lo hi x)
-unfolding within
 within-in lo hi x l h = and-both (leb lo x) (leb x hi) (le→leb lo x l) (le→leb x hi h)
 
 -- ---- among 1 to n: `each` asks all of them, `some` one of them

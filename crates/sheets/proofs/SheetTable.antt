@@ -21,7 +21,7 @@ machine-numbered i M = omega arith
 
 -- the number is the same for every i
 machine-number : (i : ℕ) (M : List ℕ) → firstNo (machineQuestions i M) .number ≡ machineRefusal M
-unfolding machineRefusal machineQuestions
+unfolding machineQuestions
 machine-number i M = same-number {qs = machineQuestions i M} {rs = machineQuestions 1 M} (also (also (also (also (also (also nothing))))))
 
 module _ (i : ℕ) (M : List ℕ) (rs : List Question) where
@@ -80,14 +80,14 @@ module _ (M R : List ℕ) where
   sheets-numbered = every-map (λ k i. (1 ≤ k) × (i ≡ sheetOf k)) (λ k i. 1 ≤ k) (λ k i h. h .0) (sheetQuestions M R) sheets-sheeted
 
   pub both-accepted : firstNo (sheetQuestions M R) .number ≡ 0 → BothAccepted M R
-  unfolding sheetQuestions ruleRefusal
+  unfolding sheetQuestions
   both-accepted e =
       let m = machine-none 1 M (ruleQuestions lent R ++ signalQuestion M R) e in
       let r = none-of-both (ruleQuestions lent R) (signalQuestion M R) (rules-numbered lent R) (m .1) in
       record { machine = m .0; rules = r .0; over = all-yes (signalQuestion M R) (r .1) .0 }
 
   pub both-pass : BothAccepted M R → firstNo (sheetQuestions M R) .number ≡ 0
-  unfolding sheetQuestions machineRefusal ruleRefusal
+  unfolding sheetQuestions
   both-pass b =
       sym
       (part-yes (machineQuestions 1 M) (ruleQuestions lent R ++ signalQuestion M R) (sym (b .machine)) (machine-numbered 1 M) refl

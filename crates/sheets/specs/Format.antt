@@ -105,10 +105,13 @@ maskPlace = 1
 abbrev pub nextTransitionPlace : ℕ
 nextTransitionPlace = 2
 
--- a line's, whose other words are its operation's
+-- a line's: its operation, and the first of its operands, which follow one another
 
 abbrev pub operationPlace : ℕ
 operationPlace = 0
+
+abbrev pub operandPlace : ℕ
+operandPlace = 1
 
 -- ---- where the records of a kind begin, and how long a sheet is: n nodes and e edges of a machine
 

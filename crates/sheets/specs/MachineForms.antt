@@ -13,65 +13,53 @@ use Rattle.sheets.specs.Questions.{Question, ask}
 use Rattle.sheets.specs.declared.format.NodeForm.{NodeForm}
 
 -- the header: n, a and e
-unfoldable pub nodes : List ℕ → ℕ
-unfolding word
+abbrev pub nodes : List ℕ → ℕ
 nodes M = word M 0
 
-unfoldable pub signals : List ℕ → ℕ
-unfolding word
+abbrev pub signals : List ℕ → ℕ
 signals M = word M 1
 
-unfoldable pub edges : List ℕ → ℕ
-unfolding word
+abbrev pub edges : List ℕ → ℕ
 edges M = word M 2
 
 -- "Are there at least 3 words, and are n, a, e in range?"
 unfoldable pub q1 : List ℕ → Bool
-unfolding within nodes signals edges
 q1 M = leb machineHeader (length M) && within 1 nodesMost (nodes M) && within 1 signalsMost (signals M) && within 1 edgesMost (edges M)
 
 module _ (F : NodeForm) (M : List ℕ) where
   -- word k of the record of node s, and of edge record x
-  unfoldable pub nodeWord : ℕ → ℕ → ℕ
-  unfolding recordWord
+  abbrev pub nodeWord : ℕ → ℕ → ℕ
   nodeWord s k = recordWord M machineHeader (F .words) s k
 
-  unfoldable pub edgeWord : ℕ → ℕ → ℕ
-  unfolding recordWord nodes
+  abbrev pub edgeWord : ℕ → ℕ → ℕ
   edgeWord x k = recordWord M (edgesFrom F (nodes M)) edgeWords x k
 
   -- signal i at node s
-  unfoldable pub signalAt : ℕ → ℕ → Bool
-  unfolding nodeWord bit
+  abbrev pub signalAt : ℕ → ℕ → Bool
   signalAt i s = bit (nodeWord s (F .signals)) (i - 1)
 
   -- the start flag of node s: 1 at a start node
-  unfoldable pub startFlag : ℕ → ℕ
-  unfolding nodeWord
+  abbrev pub startFlag : ℕ → ℕ
   startFlag s = nodeWord s (F .flag)
 
   -- the first edge record of node s
-  unfoldable pub firstEdge : ℕ → ℕ
-  unfolding nodeWord
+  abbrev pub firstEdge : ℕ → ℕ
   firstEdge s = nodeWord s (F .first)
 
   -- the node that edge record x leads to, and the record after it
-  unfoldable pub target : ℕ → ℕ
-  unfolding edgeWord
+  abbrev pub target : ℕ → ℕ
   target x = edgeWord x edgeTargetPlace
 
-  unfoldable pub nextEdge : ℕ → ℕ
-  unfolding edgeWord
+  abbrev pub nextEdge : ℕ → ℕ
   nextEdge x = edgeWord x edgeNextPlace
 
   -- the edge records of node s
-  unfoldable pub edgesOf : ℕ → List ℕ
-  unfolding chain edges nextEdge firstEdge
+  abbrev pub edgesOf : ℕ → List ℕ
   edgesOf s = chain (edges M) nextEdge (firstEdge s)
 
   -- the structure: a target met twice is one edge of R
   unfoldable pub kripke : Kripke
-  unfolding nodes signalAt anyOf edgesOf target startFlag within
+  unfolding anyOf
   kripke = record {
     nodes = nodes M;
     signal = signalAt;
@@ -83,39 +71,38 @@ module _ (F : NodeForm) (M : List ℕ) where
 
   -- "Is the length exactly 3 + 3n + 2e?"
   unfoldable pub q2 : Bool
-  unfolding nodes edges
   q2 = eqb (length M) (formLength F (nodes M) (edges M))
 
   -- "Are the signal bits from bit a up zero, and is each flag 0 or 1?"
   abbrev pub nodeInRange : ℕ → Bool
-  nodeInRange s = ltb (nodeWord s (F .signals)) (2 ^ signals M) && leb (nodeWord s (F .flag)) 1
+  nodeInRange s = ltb (nodeWord s (F .signals)) (2 ^ signals M) && leb (startFlag s) 1
 
   unfoldable pub q3 : Bool
-  unfolding each nodes nodeWord signals
+  unfolding each
   q3 = each (nodes M) nodeInRange
 
   -- "Is each first edge in 1 to e?"
   abbrev pub firstInRange : ℕ → Bool
-  firstInRange s = within 1 (edges M) (nodeWord s (F .first))
+  firstInRange s = within 1 (edges M) (firstEdge s)
 
   unfoldable pub q4 : Bool
-  unfolding each nodes within edges nodeWord
+  unfolding each
   q4 = each (nodes M) firstInRange
 
   -- "Is each edge's target in 1 to n, and its next zero, or above its own number and at most e?"
   abbrev pub edgeInRange : ℕ → Bool
-  edgeInRange x = within 1 (nodes M) (edgeWord x edgeTargetPlace) && link (edges M) x (edgeWord x edgeNextPlace)
+  edgeInRange x = within 1 (nodes M) (target x) && link (edges M) x (nextEdge x)
 
   unfoldable pub q5 : Bool
-  unfolding each edges within nodes edgeWord link
+  unfolding each
   q5 = each (edges M) edgeInRange
 
   -- "Is there a start node?"
   abbrev pub noStart : ℕ → Bool
-  noStart s = eqb (nodeWord s (F .flag)) 0
+  noStart s = eqb (startFlag s) 0
 
   unfoldable pub q6 : Bool
-  unfolding each nodes nodeWord
+  unfolding each
   q6 = not (each (nodes M) noStart)
 
   -- the questions headed Machine, put to the machine sheet of number i among the sheets of a call

@@ -1,6 +1,7 @@
 -- The operations of a line: of each number what its words are, and which line they make. Question 15, the line of a record, decoding, and what
 -- comparison writes derive from this.
 use Prim.Native.Nat.{ℕ, zero, suc, _+_}
+use Rattle.sheets.specs.Format.{operandPlace}
 use Rattle.sheets.specs.Structures.{Line, signal, negation, either, somePath, somePathNot, malformed}
 
 -- the numbers
@@ -19,7 +20,7 @@ somePathOperation = 3
 abbrev pub somePathNotOperation : ℕ
 somePathNotOperation = 4
 
--- what the words of a record are, from its word 1 on: a signal; lines above, so many; an automaton, and a line above for each of its variables; and
+-- what the words of a record are, from its first operand on: a signal; lines above, so many; an automaton, and a line above for each of its variables; and
 -- a number that is no operation has none
 pub data Operands : Type 0 where
   oneSignal : Operands
@@ -33,9 +34,9 @@ pub record Operation : Type 0 where
   pub makes : (ℕ → ℕ) → Line
 
 unfoldable pub operation : ℕ → Operation
-operation zero = record { operands = oneSignal; makes = λ w. signal (w 1) }
-operation (suc zero) = record { operands = linesAbove 1; makes = λ w. negation (w 1) }
-operation (suc (suc zero)) = record { operands = linesAbove 2; makes = λ w. either (w 1) (w 2) }
-operation (suc (suc (suc zero))) = record { operands = automatonWithLines; makes = λ w. somePath (w 1) (λ i. w (2 + i)) }
-operation (suc (suc (suc (suc zero)))) = record { operands = automatonWithLines; makes = λ w. somePathNot (w 1) (λ i. w (2 + i)) }
+operation zero = record { operands = oneSignal; makes = λ w. signal (w operandPlace) }
+operation (suc zero) = record { operands = linesAbove 1; makes = λ w. negation (w operandPlace) }
+operation (suc (suc zero)) = record { operands = linesAbove 2; makes = λ w. either (w operandPlace) (w (operandPlace + 1)) }
+operation (suc (suc (suc zero))) = record { operands = automatonWithLines; makes = λ w. somePath (w operandPlace) (λ i. w (operandPlace + 1 + i)) }
+operation (suc (suc (suc (suc zero)))) = record { operands = automatonWithLines; makes = λ w. somePathNot (w operandPlace) (λ i. w (operandPlace + 1 + i)) }
 operation (suc (suc (suc (suc (suc n))))) = record { operands = noOperands; makes = λ w. malformed }

@@ -8,17 +8,15 @@ use Rattle.sheets.specs.Structures.{Automaton}
 use Rattle.sheets.specs.Rules.{statesOf, automaton}
 
 -- how many states automaton x has
-unfoldable pub stateCount : List ℕ → ℕ → ℕ
-unfolding statesOf
+abbrev pub stateCount : List ℕ → ℕ → ℕ
 stateCount R x = length (statesOf R x)
 
 -- the record number of the state at place p
-unfoldable pub stateOf : List ℕ → ℕ → ℕ → ℕ
-unfolding statesOf
+abbrev pub stateOf : List ℕ → ℕ → ℕ → ℕ
 stateOf R x p = getD (statesOf R x) (p - 1) 0
 
 unfoldable pub positioned : List ℕ → ℕ → Automaton
-unfolding automaton within stateCount stateOf
+unfolding automaton
 positioned R x = record {
   variables = automaton R x .variables;
   initial = 1;

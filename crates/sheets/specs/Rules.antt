@@ -34,7 +34,7 @@ pub record Form : Type 0 where
   pub lineWords : ℕ
 
 -- the form of a sheet that is lent: `chained` limits the states of one automaton
-unfoldable pub lent : Form
+abbrev pub lent : Form
 lent = record {
   automata = most Format.automataMost;
   states = most Format.statesMost;
@@ -50,73 +50,58 @@ unfoldable pub lifted : ℕ → Form
 lifted L = record { automata = unlimited; states = unlimited; transitions = unlimited; lines = unlimited; variables = unlimited; chained = unlimited; lineWords = L }
 
 -- the header: k, m, e and l; the e records of a rule sheet are called transitions here, for a machine sheet has edges too
-unfoldable pub automata : List ℕ → ℕ
-unfolding word
+abbrev pub automata : List ℕ → ℕ
 automata R = word R 0
 
-unfoldable pub states : List ℕ → ℕ
-unfolding word
+abbrev pub states : List ℕ → ℕ
 states R = word R 1
 
-unfoldable pub transitions : List ℕ → ℕ
-unfolding word
+abbrev pub transitions : List ℕ → ℕ
 transitions R = word R 2
 
-unfoldable pub lines : List ℕ → ℕ
-unfolding word
+abbrev pub lines : List ℕ → ℕ
 lines R = word R 3
 
 -- word k of an automaton's, a state's, a transition's and a line's record; records count from 1
-unfoldable pub automatonWord : List ℕ → ℕ → ℕ → ℕ
-unfolding recordWord
+abbrev pub automatonWord : List ℕ → ℕ → ℕ → ℕ
 automatonWord R x k = recordWord R Format.ruleHeader Format.automatonWords x k
 
-unfoldable pub stateWord : List ℕ → ℕ → ℕ → ℕ
-unfolding recordWord automata
+abbrev pub stateWord : List ℕ → ℕ → ℕ → ℕ
 stateWord R q k = recordWord R (Format.statesFrom (automata R)) Format.stateWords q k
 
-unfoldable pub transitionWord : List ℕ → ℕ → ℕ → ℕ
-unfolding recordWord automata states
+abbrev pub transitionWord : List ℕ → ℕ → ℕ → ℕ
 transitionWord R y k = recordWord R (Format.transitionsFrom (automata R) (states R)) Format.transitionWords y k
 
-unfoldable pub lineWord : Form → List ℕ → ℕ → ℕ → ℕ
-unfolding recordWord automata states transitions
+abbrev pub lineWord : Form → List ℕ → ℕ → ℕ → ℕ
 lineWord F R j k = recordWord R (Format.linesFrom (automata R) (states R) (transitions R)) (F .lineWords) j k
 
 -- an automaton: its variables, its initial state, the states on its chain
-unfoldable pub variables : List ℕ → ℕ → ℕ
-unfolding automatonWord
+abbrev pub variables : List ℕ → ℕ → ℕ
 variables R x = automatonWord R x Format.variablesPlace
 
-unfoldable pub initial : List ℕ → ℕ → ℕ
-unfolding automatonWord
+abbrev pub initial : List ℕ → ℕ → ℕ
 initial R x = automatonWord R x Format.initialPlace
 
-unfoldable pub statesOf : List ℕ → ℕ → List ℕ
-unfolding chain states stateWord initial
+abbrev pub statesOf : List ℕ → ℕ → List ℕ
 statesOf R x = chain (states R) (λ q. stateWord R q Format.nextStatePlace) (initial R x)
 
 -- the accepting word of state q is 1
-unfoldable pub accepting : List ℕ → ℕ → Bool
-unfolding stateWord
+abbrev pub accepting : List ℕ → ℕ → Bool
 accepting R q = eqb (stateWord R q Format.acceptingPlace) 1
 
 -- the transitions out of a state (document 01's edges of a rule sheet), and a transition's target and mask
-unfoldable pub transitionsOf : List ℕ → ℕ → List ℕ
-unfolding chain transitions transitionWord stateWord
+abbrev pub transitionsOf : List ℕ → ℕ → List ℕ
 transitionsOf R q = chain (transitions R) (λ y. transitionWord R y Format.nextTransitionPlace) (stateWord R q Format.firstTransitionPlace)
 
-unfoldable pub transitionTarget : List ℕ → ℕ → ℕ
-unfolding transitionWord
+abbrev pub transitionTarget : List ℕ → ℕ → ℕ
 transitionTarget R y = transitionWord R y Format.transitionTargetPlace
 
-unfoldable pub mask : List ℕ → ℕ → ℕ
-unfolding transitionWord
+abbrev pub mask : List ℕ → ℕ → ℕ
 mask R y = transitionWord R y Format.maskPlace
 
 -- the automaton of record x: at a valuation it takes the transition whose mask has it
 unfoldable pub automaton : List ℕ → ℕ → Automaton
-unfolding variables initial accepting anyOf transitionsOf mask bit transitionTarget
+unfolding anyOf bit
 automaton R x = record {
   variables = variables R x;
   initial = initial R x;
@@ -126,18 +111,18 @@ automaton R x = record {
 
 -- line j, if its operation is op
 unfoldable pub lineOf : Form → List ℕ → ℕ → ℕ → Line
-unfolding lineWord operation
+unfolding operation
 lineOf F R j op = operation op .makes (lineWord F R j)
 
 unfoldable pub line : Form → List ℕ → ℕ → Line
-unfolding lineOf lineWord
+unfolding lineOf
 line F R j = lineOf F R j (lineWord F R j Format.operationPlace)
 
 -- ---- condition 1, as a test that is computed (`Cycles` has it in the reader's terms)
 
 -- a transition with a nonzero mask leads from p to q
 unfoldable pub leads : List ℕ → ℕ → ℕ → Bool
-unfolding anyOf transitionsOf mask transitionTarget
+unfolding anyOf
 leads R p q = anyOf (transitionsOf R p) (λ y. not (eqb (mask R y) 0) && eqb (transitionTarget R y) q)
 
 -- the elements that pass
@@ -163,7 +148,7 @@ walks R all p q = member q (reached R all p (length all))
 
 -- no cycle meets an accepting and a non-accepting state
 unfoldable pub unmixed : List ℕ → List ℕ → Bool
-unfolding allOf accepting walks
+unfolding allOf walks
 unmixed R all = allOf all (λ p. allOf all (λ q. not (accepting R p && not (accepting R q) && walks R all p q && walks R all q p)))
 
 -- ---- the questions
@@ -176,19 +161,18 @@ distinct (x ∷ xs) = not (member x xs) && distinct xs
 
 -- "Are there at least 4 words, and are k, m, e, l in range?"
 unfoldable pub q7 : Form → List ℕ → Bool
-unfolding fits automata states transitions lines
+unfolding fits
 q7 F R =
     leb Format.ruleHeader (length R) && fits (F .automata) (automata R) && fits (F .states) (states R) && fits (F .transitions) (transitions R)
     && leb 1 (lines R) && fits (F .lines) (lines R)
 
 -- "Is the length exactly 4 + 2k + 3m + 3e + 6l?"
 unfoldable pub q8 : Form → List ℕ → Bool
-unfolding automata states transitions lines
 q8 F R = eqb (length R) (Format.rulesLength (F .lineWords) (automata R) (states R) (transitions R) (lines R))
 
 -- "Are v and the first state (1 to m) in range?"
 unfoldable pub q9 : Form → List ℕ → Bool
-unfolding each automata fits variables within states initial
+unfolding each fits
 q9 F R = each (automata R) (λ x. fits (F .variables) (variables R x) && within 1 (states R) (initial R x))
 
 -- "Is each accepting word 0 or 1, first edge in 1 to e, next state zero, or above its own number and at most m?"
@@ -198,74 +182,74 @@ stateInRange R q =
     && link (states R) q (stateWord R q Format.nextStatePlace)
 
 unfoldable pub q10 : Form → List ℕ → Bool
-unfolding each states stateWord within transitions link
+unfolding each
 q10 F R = each (states R) (stateInRange R)
 
 -- "The same for edges: target in 1 to m, next zero or above and at most e?"
 abbrev pub transitionInRange : List ℕ → ℕ → Bool
-transitionInRange R y =
-    within 1 (states R) (transitionWord R y Format.transitionTargetPlace) && link (transitions R) y (transitionWord R y Format.nextTransitionPlace)
+transitionInRange R y = within 1 (states R) (transitionTarget R y) && link (transitions R) y (transitionWord R y Format.nextTransitionPlace)
 
 unfoldable pub q11 : Form → List ℕ → Bool
-unfolding each transitions within states link transitionWord
+unfolding each
 q11 F R = each (transitions R) (transitionInRange R)
 
 -- of the transitions `ys` out of a state of the automaton with the states `all` and v variables
 unfoldable pub transitionsFit : List ℕ → ℕ → List ℕ → List ℕ → Bool
-unfolding allOf mask member transitionTarget distinct
+unfolding allOf member distinct
 transitionsFit R v all ys = allOf ys (λ y. ltb (mask R y) (2 ^ (2 ^ v)) && member (transitionTarget R y) all) && distinct (map (transitionTarget R) ys)
 
 -- automaton x: few enough states, and transitions that fit out of each of them
 unfoldable pub automatonFits : Form → List ℕ → ℕ → Bool
-unfolding fits statesOf allOf transitionsFit variables transitionsOf
+unfolding fits allOf transitionsFit
 automatonFits F R x =
     fits (F .chained) (length (statesOf R x)) && allOf (statesOf R x) (λ q. transitionsFit R (variables R x) (statesOf R x) (transitionsOf R q))
 
 -- "Has each automaton at most 16 states, its masks below 2^(2^v), and out of each of its states only targets on its own chain, none twice?"
 unfoldable pub q12 : Form → List ℕ → Bool
-unfolding each automata automatonFits
+unfolding each automatonFits
 q12 F R = each (automata R) (automatonFits F R)
 
 -- every valuation is in the mask of exactly one of the transitions
 unfoldable pub total : List ℕ → ℕ → List ℕ → Bool
-unfolding each howMany bit mask
+unfolding each howMany bit
 total R v ys = each (2 ^ v) (λ w. eqb (howMany ys (λ y. bit (mask R y) (w - 1))) 1)
 
 unfoldable pub automatonTotal : List ℕ → ℕ → Bool
-unfolding allOf statesOf total variables transitionsOf
+unfolding allOf total
 automatonTotal R x = allOf (statesOf R x) (λ q. total R (variables R x) (transitionsOf R q))
 
 -- "Do the masks out of each of its states exclude each other and together hold every valuation?"
 unfoldable pub q13 : Form → List ℕ → Bool
-unfolding each automata automatonTotal
+unfolding each automatonTotal
 q13 F R = each (automata R) (automatonTotal R)
 
 -- "Does condition 1 hold?"
 unfoldable pub q14 : Form → List ℕ → Bool
-unfolding each automata unmixed statesOf
+unfolding each unmixed
 q14 F R = each (automata R) (λ x. unmixed R (statesOf R x))
 
 -- the words of line j from word c on are zero, and the record is long enough for those before it
 unfoldable pub unused : Form → List ℕ → ℕ → ℕ → Bool
-unfolding each lineWord
+unfolding each
 unused F R j c = leb c (F .lineWords) && each (F .lineWords - c) (λ i. eqb (lineWord F R j (c + i - 1)) 0)
 
 -- words c + 1 to c + n of line j refer to lines above it
 unfoldable pub refersAbove : Form → List ℕ → ℕ → ℕ → ℕ → Bool
-unfolding each within lineWord
+unfolding each
 refersAbove F R j c n = each n (λ i. within 1 (j - 1) (lineWord F R j (c + i)))
 
 -- the words after the operation of a path line: an automaton, a line above for each of its variables, then zeros
 unfoldable pub pathFits : Form → List ℕ → ℕ → Bool
-unfolding within lineWord unused refersAbove automata variables
+unfolding unused refersAbove
 pathFits F R j =
-    within 1 (automata R) (lineWord F R j 1) && refersAbove F R j 1 (variables R (lineWord F R j 1)) && unused F R j (2 + variables R (lineWord F R j 1))
+    within 1 (automata R) (lineWord F R j Format.operandPlace) && refersAbove F R j Format.operandPlace (variables R (lineWord F R j Format.operandPlace))
+    && unused F R j (Format.operandPlace + 1 + variables R (lineWord F R j Format.operandPlace))
 
 -- the words of line j are such operands, and unused words are zero
 unfoldable pub operandsFit : Form → List ℕ → ℕ → Operands → Bool
-unfolding within lineWord unused refersAbove pathFits
-operandsFit F R j oneSignal = within 1 Format.signalsMost (lineWord F R j 1) && unused F R j 2
-operandsFit F R j (linesAbove n) = refersAbove F R j 0 n && unused F R j (1 + n)
+unfolding unused refersAbove pathFits
+operandsFit F R j oneSignal = within 1 Format.signalsMost (lineWord F R j Format.operandPlace) && unused F R j (Format.operandPlace + 1)
+operandsFit F R j (linesAbove n) = refersAbove F R j Format.operationPlace n && unused F R j (Format.operandPlace + n)
 operandsFit F R j automatonWithLines = pathFits F R j
 operandsFit F R j noOperands = false
 
@@ -277,7 +261,7 @@ lineFits F R j op = operandsFit F R j (operation op .operands)
 -- "Is each operation 0 to 4, each unused word zero, each signal number in 1 to 16, automaton in 1 to k, and line referred to from 1 to
 -- one below its own?"
 unfoldable pub q15 : Form → List ℕ → Bool
-unfolding each lines lineFits lineWord
+unfolding each lineFits
 q15 F R = each (lines R) (λ j. lineFits F R j (lineWord F R j Format.operationPlace))
 
 -- the questions headed Rules, in order: those of the records, those of the automata, and that of the lines
@@ -294,8 +278,7 @@ unfolding recordQuestions automataQuestions q15
 ruleQuestions F R = recordQuestions F R ++ (automataQuestions F R ++ (ask 15 0 (q15 F R) ∷ []))
 
 -- the number of the question that refuses a rule sheet; 0, and the sheet is accepted, where none does
-unfoldable pub ruleRefusal : Form → List ℕ → ℕ
-unfolding firstNo ruleQuestions
+abbrev pub ruleRefusal : Form → List ℕ → ℕ
 ruleRefusal F R = firstNo (ruleQuestions F R) .number
 
 -- a line that is a signal has a number of at most a
@@ -309,5 +292,5 @@ signalMost a malformed = true
 
 -- question 16: the sheet's signal numbers are at most a
 unfoldable pub overSignals : Form → ℕ → List ℕ → Bool
-unfolding each lines line signalMost
+unfolding each line signalMost
 overSignals F a R = each (lines R) (λ j. signalMost a (line F R j))

@@ -10,7 +10,7 @@ use Rattle.sheets.specs.Rules.{lent, ruleQuestions, overSignals}
 
 -- questions 1 to 16: the machine's, the rule's, and "Are all signal numbers at most a?"
 unfoldable pub sheetQuestions : List ℕ → List ℕ → List Question
-unfolding machineQuestions ruleQuestions lent overSignals signals
+unfolding machineQuestions ruleQuestions overSignals
 sheetQuestions M R = machineQuestions 1 M ++ (ruleQuestions lent R ++ (ask 16 0 (overSignals lent (signals M) R) ∷ []))
 
 -- the machine sheet that a question is put to, in a call with one machine sheet: 1 for questions 1 to 6, otherwise 0

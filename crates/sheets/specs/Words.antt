@@ -14,7 +14,7 @@ unfoldable pub bit : ℕ → ℕ → Bool
 bit x i = eqb (x / 2 ^ i % 2) 1
 
 -- from `low` to `high`, both included
-unfoldable pub within : ℕ → ℕ → ℕ → Bool
+abbrev pub within : ℕ → ℕ → ℕ → Bool
 within low high x = leb low x && leb x high
 
 -- the test holds at 1 to n: of every record of a kind
@@ -59,5 +59,5 @@ chain (suc f) next zero = []
 chain (suc f) next (suc i) = suc i ∷ chain f next (next (suc i))
 
 -- a record's link: none, or a higher number that is still a record's
-unfoldable pub link : ℕ → ℕ → ℕ → Bool
+abbrev pub link : ℕ → ℕ → ℕ → Bool
 link records own next = eqb next 0 || (ltb own next && leb next records)

@@ -66,7 +66,7 @@ pub const PLAIN: NodeForm = NodeForm {
     first: 2,
 };
 
-// The places of the parts of the other records; a line's other words are its operation's.
+// The places of the parts of the other records; a line's are its operation and the first of its operands, which follow one another.
 pub const EDGE_TARGET: u16 = 0;
 
 pub const EDGE_NEXT: u16 = 1;
@@ -86,6 +86,8 @@ pub const TRANSITION_TARGET: u16 = 0;
 pub const NEXT_TRANSITION: u16 = 2;
 
 pub const OPERATION: u16 = 0;
+
+pub const OPERAND: u16 = 1;
 
 // Where nodes and automata begin: after the header.
 pub const NODES_FROM: u32 = MACHINE_HEADER as u32;

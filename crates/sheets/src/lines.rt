@@ -23,6 +23,15 @@ pub const SOME_PATH: u16 = 3;
 
 pub const SOME_PATH_NOT: u16 = 4;
 
+// The places of the operands after the first.
+const SECOND_OPERAND: u16 = format::OPERAND + 1;
+
+const THIRD_OPERAND: u16 = format::OPERAND + 2;
+
+const FOURTH_OPERAND: u16 = format::OPERAND + 3;
+
+const FIFTH_OPERAND: u16 = format::OPERAND + 4;
+
 // An automaton with the lines of the variables that it may have; what stands past those that it has is 0.
 pub struct PathLine {
     pub automaton: u16,
@@ -91,7 +100,7 @@ fn refers_above(r: &[u16], j: u16, c: u16, n: u16) -> bool
 fn signal_fits(r: &[u16], j: u16) -> bool
     ensures { λ b. ⌜ b ≡ Rules.operandsFit Rules.lent (now (r .entry)) j oneSignal ⌝ }
 {
-    words::within(1, format::SIGNALS_MOST, rules::line_word(r, j, 1)) & unused(r, j, 2)
+    words::within(1, format::SIGNALS_MOST, rules::line_word(r, j, format::OPERAND)) & unused(r, j, SECOND_OPERAND)
 }
 
 // Question 15 of the words of an operation on n lines above.
@@ -99,30 +108,30 @@ fn lines_fit(r: &[u16], j: u16, n: u16) -> bool
     requires { ⌜ n ≤ variablesMost ⌝ }
     ensures { λ b. ⌜ b ≡ Rules.operandsFit Rules.lent (now (r .entry)) j (linesAbove n) ⌝ }
 {
-    refers_above(r, j, 0, n) & unused(r, j, 1 + n)
+    refers_above(r, j, format::OPERATION, n) & unused(r, j, format::OPERAND + n)
 }
 
 // Question 15 of a path line's words.
 fn path_fits(r: &[u16], j: u16) -> bool
     ensures { λ b. ⌜ b ≡ Rules.pathFits Rules.lent (now (r .entry)) j ⌝ }
 {
-    let x = rules::line_word(r, j, 1);
+    let x = rules::line_word(r, j, format::OPERAND);
     let v = rules::variables(r, x);
     if v > format::VARIABLES_MOST {
         return false;
     }
-    words::within(1, rules::automata(r), x) & refers_above(r, j, 1, v) & unused(r, j, 2 + v)
+    words::within(1, rules::automata(r), x) & refers_above(r, j, format::OPERAND, v) & unused(r, j, SECOND_OPERAND + v)
 }
 
 // The automaton and the lines that the words of line j name.
 pub fn path_line(r: &[u16], j: u16) -> PathLine
     ensures { λ p. ⌜ p ≡ Lines.pathLine (Rules.lineWord Rules.lent (now (r .entry)) j 1) (λ i. Rules.lineWord Rules.lent (now (r .entry)) j (2 + i)) ⌝ }
 {
-    let automaton = rules::line_word(r, j, 1);
-    let first = rules::line_word(r, j, 2);
-    let second = rules::line_word(r, j, 3);
-    let third = rules::line_word(r, j, 4);
-    let fourth = rules::line_word(r, j, 5);
+    let automaton = rules::line_word(r, j, format::OPERAND);
+    let first = rules::line_word(r, j, SECOND_OPERAND);
+    let second = rules::line_word(r, j, THIRD_OPERAND);
+    let third = rules::line_word(r, j, FOURTH_OPERAND);
+    let fourth = rules::line_word(r, j, FIFTH_OPERAND);
     PathLine {
         automaton,
         first,
@@ -147,18 +156,18 @@ pub fn decode(r: &[u16], j: u16) -> Decoded
     match op {
         SIGNAL => {
             if signal_fits(r, j) {
-                return Decoded::Formed(Line::Signal(rules::line_word(r, j, 1)));
+                return Decoded::Formed(Line::Signal(rules::line_word(r, j, format::OPERAND)));
             }
         }
         NEGATION => {
             if lines_fit(r, j, 1) {
-                return Decoded::Formed(Line::Negation(rules::line_word(r, j, 1)));
+                return Decoded::Formed(Line::Negation(rules::line_word(r, j, format::OPERAND)));
             }
         }
         EITHER => {
             if lines_fit(r, j, 2) {
-                let first = rules::line_word(r, j, 1);
-                let second = rules::line_word(r, j, 2);
+                let first = rules::line_word(r, j, format::OPERAND);
+                let second = rules::line_word(r, j, SECOND_OPERAND);
                 return Decoded::Formed(Line::Either(first, second));
             }
         }

@@ -10,10 +10,11 @@ use mathlib.Core.List.{List}
 use mathlib.Core.Bool.{Bool, true, false, _&&_, _||_}
 use borrow.Author.Tests.{le-leb, lt-leb, ne-eqb}
 use lib.Dec.{T, leb, eqb, eqb→eq}
-use Rattle.sheets.specs.Words.{word, bit, within, each, allOf, anyOf, member, indicator, sum, howMany, chain, link}
+use Rattle.sheets.specs.Words.{word, bit, each, allOf, anyOf, member, indicator, sum, howMany, chain}
+use Rattle.sheets.specs.Records.{recordWord}
 use Rattle.sheets.specs.Questions.{none, firstNo}
-use Rattle.sheets.specs.Machine.{nodes, signals, edges, signalAt, startFlag, target, edgesOf, kripke, machineRefusal}
-use Rattle.sheets.specs.Rules.{fits, lent, automata, states, transitions, lines, automatonWord, stateWord, transitionWord, lineWord, variables, initial, statesOf, accepting, transitionsOf, transitionTarget, mask, leads, keep, passing, reached, walks, unmixed, distinct, transitionsFit, automatonFits, total, automatonTotal, unused, refersAbove, pathFits, lineFits, recordQuestions, automataQuestions, ruleQuestions, ruleRefusal, overSignals, q7, q8, q9, q10, q11, q12, q13, q14, q15, automaton, lineOf, line}
+use Rattle.sheets.specs.Machine.{nodes, kripke, machineRefusal}
+use Rattle.sheets.specs.Rules.{fits, lent, lines, lineWord, accepting, leads, keep, passing, reached, walks, unmixed, distinct, transitionsFit, automatonFits, total, automatonTotal, unused, refersAbove, pathFits, lineFits, recordQuestions, automataQuestions, ruleQuestions, ruleRefusal, overSignals, q7, q8, q9, q10, q11, q12, q13, q14, q15, automaton, lineOf, line}
 use Rattle.sheets.specs.Worked.{M3}
 use Rattle.sheets.proofs.AcceptedMachine.{firstNext, first-edge, edge-stays, nodes-sized, start-node}
 use Rattle.sheets.proofs.Counting.{number}
@@ -41,11 +42,11 @@ only false b t = absurd t
 
 -- the rule sheets are accepted
 pub one-accepted : ruleRefusal lent (OneState 1) ≡ 0
-unfolding ruleRefusal ruleQuestions recordQuestions automataQuestions firstNo none q7 q8 q9 q10 q11 q12 q13 q14 q15 fits lent automata states transitions lines automatonWord stateWord transitionWord lineWord variables initial statesOf accepting transitionsOf transitionTarget mask leads keep passing reached walks unmixed distinct transitionsFit automatonFits total automatonTotal unused refersAbove pathFits lineFits word bit within each allOf anyOf member indicator howMany chain link
+unfolding ruleQuestions recordQuestions automataQuestions firstNo none q7 q8 q9 q10 q11 q12 q13 q14 q15 fits leads keep passing reached walks unmixed distinct transitionsFit automatonFits total automatonTotal unused refersAbove pathFits lineFits recordWord bit each allOf anyOf member indicator howMany chain
 one-accepted = refl
 
 pub none-accepted : ruleRefusal lent (OneState 0) ≡ 0
-unfolding ruleRefusal ruleQuestions recordQuestions automataQuestions firstNo none q7 q8 q9 q10 q11 q12 q13 q14 q15 fits lent automata states transitions lines automatonWord stateWord transitionWord lineWord variables initial statesOf accepting transitionsOf transitionTarget mask leads keep passing reached walks unmixed distinct transitionsFit automatonFits total automatonTotal unused refersAbove pathFits lineFits word bit within each allOf anyOf member indicator howMany chain link
+unfolding ruleQuestions recordQuestions automataQuestions firstNo none q7 q8 q9 q10 q11 q12 q13 q14 q15 fits leads keep passing reached walks unmixed distinct transitionsFit automatonFits total automatonTotal unused refersAbove pathFits lineFits recordWord bit each allOf anyOf member indicator howMany chain
 none-accepted = refl
 
 each-one : (n : ℕ) → number n (λ s. true) ≡ n
@@ -83,7 +84,7 @@ module _ (M : List ℕ) (accepted : machineRefusal M ≡ 0) where
       edge-stays M accepted (follow s i) (h .0) (h .1) (firstNext M (follow s i)) (first-edge M accepted (follow s i) (h .0) (h .1))
 
   pub case-f-true : (s : ℕ) → 1 ≤ s → s ≤ nodes M → TrueAt lent M (OneState 1) 1 s
-  unfolding TrueAt True TrueWithin Means line lineOf lineWord lent automata states transitions automaton variables initial accepting transitionsOf transitionTarget mask automatonWord stateWord transitionWord word bit anyOf chain Valuation follow
+  unfolding TrueAt True TrueWithin Means line lineOf automaton recordWord bit anyOf chain Valuation follow
   case-f-true s lo hi = record {
     node = follow s;
     state = λ i. 1;
@@ -100,7 +101,7 @@ module _ (M : List ℕ) (accepted : machineRefusal M ≡ 0) where
   module _ (s : ℕ) (p : SomePath (kripke M) (automaton (OneState 0) 1) (TrueWithin (kripke M) (automaton (OneState 0)) (line lent (OneState 0)) 0)
       (λ i. lineWord lent (OneState 0) 1 (2 + i)) (accepting (OneState 0)) s) where
     stays-one : (i : ℕ) → p .state i ≡ 1
-    unfolding automaton initial automatonWord word transitionsOf transitionTarget mask transitions stateWord transitionWord automata states chain anyOf
+    unfolding automaton recordWord chain anyOf
     stays-one zero = p .begins
     stays-one (suc i) =
         let g : T (automaton (OneState 0) 1 .goes 1 (p .valuation i) (p .state (suc i))) =
@@ -108,20 +109,20 @@ module _ (M : List ℕ) (accepted : machineRefusal M ≡ 0) where
         sym (eqb→eq 1 (p .state (suc i)) (only (bit 1 (p .valuation i)) (eqb 1 (p .state (suc i))) g))
 
     never : ⊥
-    unfolding accepting stateWord automata word
+    unfolding recordWord
     never = let r = p .recurs 0 in rw (stays-one (r .0)) at (r .2)
 
   pub case-f-false : (s : ℕ) → TrueAt lent M (OneState 0) 1 s → ⊥
-  unfolding TrueAt True TrueWithin Means line lineOf lineWord lent automata states transitions word accepting automaton
+  unfolding TrueAt True TrueWithin Means line lineOf recordWord automaton
   case-f-false s p = never s p
 
   -- labelling answers 100 percent of the nodes, or none
   one-line : (b j s : ℕ) → 1 ≤ j → j ≤ lines (OneState b) → j ≡ 1
-  unfolding lines word
+  unfolding word
   one-line b j s lo hi = omega arith
 
   pub case-f-kept : Labels M (OneState 1) (λ j s. leb s (nodes M)) true (nodes M) 100
-  unfolding overSignals lines lineWord lent word each Keeps
+  unfolding overSignals recordWord each Keeps
   case-f-kept =
       labels M (OneState 1) accepted one-accepted tt (λ j s. leb s (nodes M))
       (λ j s lo hi l h. let e : j ≡ 1 = one-line 1 j s lo hi in (λ t. rw e (case-f-true s l h), λ t. subst T (sym (le-leb s (nodes M) h)) tt))
@@ -129,7 +130,7 @@ module _ (M : List ℕ) (accepted : machineRefusal M ≡ 0) where
       (whole-percent (nodes M) (nodes-sized M accepted .0))
 
   pub case-f-broken : Labels M (OneState 0) (λ j s. false) false 0 0
-  unfolding overSignals lines lineWord lent word each Keeps
+  unfolding overSignals recordWord each Keeps
   case-f-broken =
       labels M (OneState 0) accepted none-accepted tt (λ j s. false)
       (λ j s lo hi l h. let e : j ≡ 1 = one-line 0 j s lo hi in (λ t. absurd t, λ t. case-f-false s (rw e at t))) (λ j s over. refl) false
@@ -145,7 +146,7 @@ turn (suc zero) = 2
 turn (suc (suc i)) = turn i
 
 pub case-e-true : TrueAt lent M3 EvenSheet 2 1
-unfolding TrueAt True TrueWithin Means line lineOf lineWord lent automata states transitions automaton variables initial accepting transitionsOf transitionTarget mask automatonWord stateWord transitionWord word bit anyOf chain Valuation kripke nodes edges signalAt target edgesOf turn
+unfolding TrueAt True TrueWithin Means line lineOf automaton recordWord bit anyOf chain Valuation kripke turn
 case-e-true = record {
   node = turn;
   state = turn;
@@ -183,7 +184,7 @@ module _ (p : SomePath (kripke M3) (automaton EvenSheet 1) (TrueWithin (kripke M
     (λ k. lineWord lent EvenSheet 2 (2 + k)) (accepting EvenSheet) 2) where
   -- signal 1 is not set at node 2, so the first valuation is 0
   first-valuation : p .valuation 0 ≡ 0
-  unfolding Valuation TrueWithin Means line lineOf lineWord lent automata states transitions automaton variables automatonWord word bit kripke signalAt
+  unfolding Valuation TrueWithin Means line lineOf automaton recordWord bit kripke
   first-valuation =
       let v = subst (λ (s : ℕ). Valuation (TrueWithin (kripke M3) (automaton EvenSheet) (line lent EvenSheet) 1) 1 (λ k. lineWord lent EvenSheet 2 (2 + k)) s (p .valuation 0)) (p .starts) (p .values 0) in
       only-zero (p .valuation 0) (v .0) (v .1 0 (omega arith) .0)
@@ -194,7 +195,7 @@ module _ (p : SomePath (kripke M3) (automaton EvenSheet 1) (TrueWithin (kripke M
       only-zero (suc (suc w)) l h = absurd (omega arith)
 
   third : (i : ℕ) → p .state (suc i) ≡ 3
-  unfolding automaton initial automatonWord word transitionsOf transitionTarget mask transitions stateWord transitionWord automata states chain anyOf bit
+  unfolding automaton recordWord chain anyOf bit
   third zero =
       let g = subst (λ (q : ℕ). T (automaton EvenSheet 1 .goes q (p .valuation 0) (p .state 1))) (p .begins) (p .goes 0) in
       let h = subst (λ (w : ℕ). T (automaton EvenSheet 1 .goes 1 w (p .state 1))) first-valuation g in
@@ -204,7 +205,7 @@ module _ (p : SomePath (kripke M3) (automaton EvenSheet 1) (TrueWithin (kripke M
       sym (eqb→eq 3 (p .state (suc (suc i))) (only (bit 3 (p .valuation (suc i))) (eqb 3 (p .state (suc (suc i)))) g))
 
   no-path : ⊥
-  unfolding accepting stateWord automata word
+  unfolding recordWord
   no-path = let r = p .recurs 1 in ends (r .0) (r .1) (r .2)
     where
       ends : (k : ℕ) → 1 ≤ k → T (accepting EvenSheet (p .state k)) → ⊥
@@ -212,20 +213,20 @@ module _ (p : SomePath (kripke M3) (automaton EvenSheet 1) (TrueWithin (kripke M
       ends (suc k) l t = rw (third k) at t
 
 pub case-e-false : TrueAt lent M3 EvenSheet 2 2 → ⊥
-unfolding TrueAt True TrueWithin Means line lineOf lineWord lent automata states transitions word accepting automaton
+unfolding TrueAt True TrueWithin Means line lineOf recordWord automaton
 case-e-false p = no-path p
 
 pub even-accepted : ruleRefusal lent EvenSheet ≡ 0
-unfolding ruleRefusal ruleQuestions recordQuestions automataQuestions firstNo none q7 q8 q9 q10 q11 q12 q13 q14 q15 fits lent automata states transitions lines automatonWord stateWord transitionWord lineWord variables initial statesOf accepting transitionsOf transitionTarget mask leads keep passing reached walks unmixed distinct transitionsFit automatonFits total automatonTotal unused refersAbove pathFits lineFits word bit within each allOf anyOf member indicator howMany chain link
+unfolding ruleQuestions recordQuestions automataQuestions firstNo none q7 q8 q9 q10 q11 q12 q13 q14 q15 fits leads keep passing reached walks unmixed distinct transitionsFit automatonFits total automatonTotal unused refersAbove pathFits lineFits recordWord bit each allOf anyOf member indicator howMany chain
 even-accepted = refl
 
 -- line 1 is signal 1, which node 1 alone has
 signal-on : TrueAt lent M3 EvenSheet 1 1
-unfolding TrueAt True TrueWithin Means line lineOf lineWord lent automata states transitions word kripke signalAt bit
+unfolding TrueAt True TrueWithin Means line lineOf recordWord kripke bit
 signal-on = tt
 
 signal-off : TrueAt lent M3 EvenSheet 1 2 → ⊥
-unfolding TrueAt True TrueWithin Means line lineOf lineWord lent automata states transitions word kripke signalAt bit
+unfolding TrueAt True TrueWithin Means line lineOf recordWord kripke bit
 signal-off t = t
 
 even-truth : (j s : ℕ) → 1 ≤ j → j ≤ 2 → 1 ≤ s → s ≤ 2 → T (eqb s 1) ↔ TrueAt lent M3 EvenSheet j s
@@ -241,14 +242,14 @@ even-truth (suc (suc (suc j))) (suc s) lo hi l h = absurd (omega arith)
 
 -- node 1 alone starts
 even-kept : (s : ℕ) → 1 ≤ s → s ≤ 2 → T (kripke M3 .start s) → TrueAt lent M3 EvenSheet 2 s
-unfolding kripke nodes startFlag word within
+unfolding kripke recordWord
 even-kept zero lo hi k = absurd (omega arith)
 even-kept (suc zero) lo hi k = case-e-true
 even-kept (suc (suc zero)) lo hi k = absurd k
 even-kept (suc (suc (suc s))) lo hi k = absurd (omega arith)
 
 pub case-e : Labels M3 EvenSheet (λ j s. eqb s 1) true 1 50
-unfolding overSignals lines signals lineWord lent word each nodes number sum indicator percent Keeps
+unfolding overSignals recordWord each number sum indicator percent Keeps
 case-e =
     labels M3 EvenSheet (machine-cases .m3) even-accepted tt (λ j s. eqb s 1) even-truth (λ j s over. ne-eqb s 1 (λ e. omega arith)) true
     (λ t s k. let h = start-node M3 s k in even-kept s (h .0) (h .1) k, λ k. tt) 1 refl 50 refl

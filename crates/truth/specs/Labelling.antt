@@ -42,7 +42,7 @@ percent c n = (200 * c + n) / (2 * n)
 -- the questions that labelling asks, of a space of so many words: those of both sheets, and "Has the space for truth rows at least 2l words
 -- of 64 bits?"
 unfoldable pub labelQuestions : List ℕ → List ℕ → ℕ → List Question
-unfolding sheetQuestions lines
+unfolding sheetQuestions
 labelQuestions M R space = sheetQuestions M R ++ (ask 17 0 (leb (rowWords * lines R) space) ∷ [])
 
 -- `after` is `before` with the rows of the lines 1 to k of R on M

@@ -6,6 +6,8 @@ use mathlib.Core.Bool.{Bool, not, _&&_}
 use lib.ListN.{length}
 use lib.Dec.{leb}
 use Rattle.sheets.specs.Words.{word, within}
+use Rattle.sheets.specs.Format.{operationPlace, operandPlace}
+use Rattle.sheets.specs.Operations.{somePathOperation, somePathNotOperation}
 use Rattle.sheets.specs.Questions.{Question, ask}
 use Rattle.sheets.specs.Structures.{Kripke, Automaton, Line, signal, negation, either, somePath, somePathNot, malformed}
 use Rattle.sheets.specs.Machine.{kripke, nodes}
@@ -17,18 +19,17 @@ use Rattle.truth.specs.Lists.{Lasso}
 
 -- line 0 means the last line
 unfoldable pub asked : List ℕ → ℕ → ℕ
-unfolding lines
 asked R zero = lines R
 asked R (suc j) = suc j
 
 unfoldable pub q18 : List ℕ → List ℕ → ℕ → ℕ → Bool
-unfolding asked within lines nodes lineWord lent
-q18 M R j s = within 1 (lines R) (asked R j) && within 1 (nodes M) s && within 3 4 (lineWord lent R (asked R j) 0)
+unfolding asked
+q18 M R j s = within 1 (lines R) (asked R j) && within 1 (nodes M) s && within somePathOperation somePathNotOperation (lineWord lent R (asked R j) operationPlace)
 
 -- `room` is how many pairs the list has space for
 unfoldable pub q19 : List ℕ → List ℕ → ℕ → ℕ → Bool
-unfolding asked nodes stateCount lineWord lent
-q19 M R j room = leb (nodes M * stateCount R (lineWord lent R (asked R j) 1)) room
+unfolding asked
+q19 M R j room = leb (nodes M * stateCount R (lineWord lent R (asked R j) operandPlace)) room
 
 -- the questions that the path call asks: those of both sheets, and its own
 unfoldable pub pathQuestions : List ℕ → List ℕ → ℕ → ℕ → ℕ → List Question

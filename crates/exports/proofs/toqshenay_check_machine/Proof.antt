@@ -1,5 +1,5 @@
 -- `toqshenay_check_machine` meets its contract: the number of the answer.
-use Rattle.sheets.specs.Machine.{machineRefusal, machineQuestions}
+use Rattle.sheets.specs.Machine.{machineQuestions}
 use Rattle.sheets.proofs.CheckAnswers.{accepted-number, refused-number}
 use borrow.Author.Needs.{needs}
 use Rattle.exports.proofs.toqshenay_check_machine.Statement.{statement}
@@ -15,11 +15,9 @@ enum-known-answer : tie.Need-enum-known-answer
 enum-known-answer c = search needs
 
 returns : tie.Need-returns
-unfolding machineRefusal
 returns c = accepted-number (machineQuestions 1 (c .before .before .before .before .args .m .now)) _ (c .before .before .check-machine .ensures) (c .enum-told .given .1)
 
 returns-2 : tie.Need-returns-2
-unfolding machineRefusal
 returns-2 c = refused-number (machineQuestions 1 (c .before .before .before .before .before .args .m .now)) _ (c .before .before .before .check-machine .ensures) _ _ (c .before .answer .given .1)
 
 pub toqshenay-check-machine-spec : {M : Type 1} → statement M

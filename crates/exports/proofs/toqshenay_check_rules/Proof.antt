@@ -1,5 +1,5 @@
 -- `toqshenay_check_rules` meets its contract: the number of the answer.
-use Rattle.sheets.specs.Rules.{lent, ruleRefusal, ruleQuestions}
+use Rattle.sheets.specs.Rules.{lent, ruleQuestions}
 use Rattle.sheets.proofs.CheckAnswers.{accepted-number, refused-number}
 use borrow.Author.Needs.{needs}
 use Rattle.exports.proofs.toqshenay_check_rules.Statement.{statement}
@@ -15,11 +15,9 @@ enum-known-answer : tie.Need-enum-known-answer
 enum-known-answer c = search needs
 
 returns : tie.Need-returns
-unfolding ruleRefusal
 returns c = accepted-number (ruleQuestions lent (c .before .before .before .before .args .r .now)) _ (c .before .before .check-rules .ensures) (c .enum-told .given .1)
 
 returns-2 : tie.Need-returns-2
-unfolding ruleRefusal
 returns-2 c = refused-number (ruleQuestions lent (c .before .before .before .before .before .args .r .now)) _ (c .before .before .before .check-rules .ensures) _ _ (c .before .answer .given .1)
 
 pub toqshenay-check-rules-spec : {M : Type 1} → statement M

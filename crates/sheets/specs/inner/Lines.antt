@@ -14,7 +14,7 @@ use Rattle.sheets.specs.declared.lines.Decoded.{Decoded}
 use Rattle.sheets.specs.declared.lines.Decoded.the-variants.{Formed, Malformed}
 
 -- an automaton with the lines of the variables that it may have
-unfoldable pub pathLine : ℕ → (ℕ → ℕ) → PathLine
+abbrev pub pathLine : ℕ → (ℕ → ℕ) → PathLine
 pathLine x arg = record { automaton = x; first = arg 0; second = arg 1; third = arg 2; fourth = arg 3 }
 
 -- these lines, in their order
@@ -22,7 +22,6 @@ abbrev pub arguments : PathLine → List ℕ
 arguments p = p .first ∷ p .second ∷ p .third ∷ p .fourth ∷ []
 
 unfoldable pub handed : Structures.Line → Decoded
-unfolding pathLine
 handed (Structures.signal i) = Formed (Signal i)
 handed (Structures.negation j) = Formed (Negation j)
 handed (Structures.either i j) = Formed (Either i j)
@@ -37,7 +36,7 @@ decodedAs false l = Malformed
 decodedAs true l = handed l
 
 unfoldable pub decoded : List ℕ → ℕ → Decoded
-unfolding decodedAs lineWord lineFits line lent
+unfolding decodedAs lineFits line
 decoded R j = decodedAs (lineFits lent R j (lineWord lent R j operationPlace)) (line lent R j)
 
 -- a signal's number is at most a, and another line has none

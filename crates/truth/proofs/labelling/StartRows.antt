@@ -34,7 +34,7 @@ module _ (M : List ℕ) (small : nodes M ≤ nodesMost) where
       (and-both (within 1 membersMost s) (eqb (startFlag M s) 1) (within-in 1 membersMost s (h .0) (omega arith)) (and-right (within 1 (nodes M) s) (eqb (startFlag M s) 1) t))
 
   pub tested-start : (s : ℕ) → 1 ≤ s → T (startTest s) → T (kripke M .start s)
-  unfolding kripke within
+  unfolding kripke
   tested-start s lo t =
       let flag = eqb (startFlag M s) 1 in
       and-both (within 1 (nodes M) s) flag

@@ -21,7 +21,6 @@ use Rattle.truth.specs.inner.Product.{argument, argumentOf}
 
 -- the lines that a path line's words name
 pub carried : (x : ℕ) (arg : ℕ → ℕ) (i : ℕ) → i < variablesMost → argumentOf (pathLine x arg) i ≡ arg i
-unfolding pathLine
 carried x arg zero l = refl
 carried x arg (suc zero) l = refl
 carried x arg (suc (suc zero)) l = refl

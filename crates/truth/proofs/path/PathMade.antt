@@ -40,7 +40,7 @@ use Rattle.truth.proofs.path.PathLines.{auto, operation, operated, path
 
 -- the rows of an accepted sheet fit 2048 words
 pub rows-fit : (R : List ℕ) → ruleRefusal lent R ≡ 0 → rowWords * lines R ≤ linesWords
-unfolding q7 lent fits
+unfolding q7 fits
 rows-fit R rules =
     let t : T (leb (lines R) linesMost) = search (and-right, rule-answers lent R rules .seven) in
     omega (arith, leb→le (lines R) linesMost t)
@@ -97,7 +97,6 @@ module _ (M R : List ℕ) (j s room q : ℕ) (e : q ≡ firstNo (pathQuestions M
         kind = rw (← ee, eo) (operated (lineWord lent R k 0) path-line)
 
         ex : p .automaton ≡ lineWord lent R k 1
-        unfolding pathLine
         ex = rw ep
 
         refers : ((1 ≤ auto R k) × (auto R k ≤ automata R)) × ((i : ℕ) → i < automaton R (auto R k) .variables → (1 ≤ argument R k i) × (argument R k i < k))

@@ -31,7 +31,7 @@ ownQuestions M R j s room = ask 18 0 (q18 M R j s) ∷ ask 19 0 (q19 M R j room)
 
 -- a path line of an accepted sheet names one of its automata
 path-automaton : (R : List ℕ) (j op : ℕ) → T (within 3 4 op) → T (lineFits lent R j op) → T (within 1 (automata R) (lineWord lent R j 1))
-unfolding within lineFits pathFits
+unfolding lineFits pathFits
 path-automaton R j zero k f = absurd k
 path-automaton R j (suc zero) k f = absurd k
 path-automaton R j (suc (suc zero)) k f = absurd k

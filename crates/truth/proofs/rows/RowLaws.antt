@@ -26,11 +26,9 @@ pub in-row : (s : ℕ) → 1 ≤ s → s ≤ membersMost → within 1 membersMos
 in-row s lo hi = passed (within 1 membersMost s) (within-in 1 membersMost s lo hi)
 
 pub not-in-row : (s : ℕ) → s ≡ 0 → within 1 membersMost s ≡ false
-unfolding within
 not-in-row s e = rw (lt-leb 1 s (omega arith))
 
 pub past-row : (s : ℕ) → membersMost < s → within 1 membersMost s ≡ false
-unfolding within
 past-row s h = rw (le-leb 1 s (omega arith), lt-leb s membersMost h)
 
 -- ---- where a node's bit is
@@ -45,11 +43,11 @@ module _ (a b s : ℕ) where
   held-out e = rw e
 
   pub held-low : 1 ≤ s → s ≤ 64 → held a b s ≡ bit a (s - 1)
-  unfolding held within pick
+  unfolding held pick
   held-low lo hi = rw (le-leb 1 s lo, le-leb s membersMost (omega arith), le-leb s 64 hi)
 
   pub held-high : 64 < s → s ≤ membersMost → held a b s ≡ bit b (s - 65)
-  unfolding held within pick
+  unfolding held pick
   held-high lo hi = rw (le-leb 1 s (omega arith), le-leb s membersMost hi, lt-leb s 64 lo)
 
 module _ (a b k : ℕ) (l : k < 64) where

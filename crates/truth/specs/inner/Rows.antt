@@ -16,7 +16,7 @@ pick false a b = b
 
 -- node s is in the set that two words hold
 unfoldable pub held : ℕ → ℕ → ℕ → Bool
-unfolding pick within bit
+unfolding pick bit
 held low high s = within 1 membersMost s && pick (leb s rowWordBits) (bit low (s - 1)) (bit high (s - suc rowWordBits))
 
 abbrev pub rowHas : Row → ℕ → Bool
@@ -34,12 +34,12 @@ tally (suc n) p = tally n p + indicator (p (suc n))
 
 -- some edge of node s leads to a node that passes
 unfoldable pub leadsInto : List ℕ → (ℕ → Bool) → ℕ → Bool
-unfolding anyOf edgesOf target
+unfolding anyOf
 leadsInto M p s = anyOf (edgesOf M s) (λ x. p (target M x))
 
 -- e is a mark that a row may have, of a node that a row may have and that some edge of node s leads to
 unfoldable pub marksInto : List ℕ → List ℕ → ℕ → ℕ → Bool
-unfolding within leadsInto
+unfolding leadsInto
 marksInto M mark s e = within 1 membersMost e && leadsInto M (λ t. within 1 membersMost t && eqb (getD mark t 0) e) s
 
 -- of the numbers that pass r is the one before all others in an order, or 0 where none passes

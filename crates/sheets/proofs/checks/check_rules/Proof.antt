@@ -1,7 +1,7 @@
 -- `check_rules` meets its contract: the number that `rule_refusal` gives, as an answer about no machine sheet.
 use borrow.Author.Needs.{needs}
 use native.Mathlib.Omega.{arith}
-use Rattle.sheets.specs.Rules.{lent, ruleRefusal, recordQuestions, automataQuestions, ruleQuestions}
+use Rattle.sheets.specs.Rules.{lent, recordQuestions, automataQuestions, ruleQuestions}
 use Rattle.sheets.proofs.CheckAnswers.{accepts, refuses}
 use Rattle.sheets.proofs.checks.check_rules.Statement.{statement}
 use Rattle.sheets.proofs.checks.check_rules.Tie as tie
@@ -10,13 +10,13 @@ rule-refusal-requires : tie.Need-rule-refusal-requires
 rule-refusal-requires c κs = search needs
 
 returns : tie.Need-returns
-unfolding ruleRefusal recordQuestions automataQuestions ruleQuestions
+unfolding recordQuestions automataQuestions ruleQuestions
 returns c =
     accepts 0 (ruleQuestions lent (c .before .before .before .args .r .now)) (omega arith) (omega arith)
     _ (c .before .rule-refusal .ensures) (c .if1 .taken)
 
 returns-2 : tie.Need-returns-2
-unfolding ruleRefusal recordQuestions automataQuestions ruleQuestions
+unfolding recordQuestions automataQuestions ruleQuestions
 returns-2 c =
     refuses 0 (ruleQuestions lent (c .before .before .before .args .r .now)) (omega arith) (omega arith)
     _ (c .before .rule-refusal .ensures) (c .if1 .left)

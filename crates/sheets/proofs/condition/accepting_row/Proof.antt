@@ -48,7 +48,6 @@ loop-less : tie.Need-loop-less Inv-loop μ-loop
 loop-less c = search needs
 
 loop-again : tie.Need-loop-again Inv-loop μ-loop
-unfolding accepting
 loop-again c =
     let at-loop : tie.At-loop Inv-loop μ-loop = search in let a = at-loop .before .before .args in
     let at = at-loop .loop in
@@ -58,7 +57,6 @@ loop-less-2 : tie.Need-loop-less-2 Inv-loop μ-loop
 loop-less-2 c = search needs
 
 loop-again-2 : tie.Need-loop-again-2 Inv-loop μ-loop
-unfolding accepting
 loop-again-2 c =
     let at-start : tie.Start Inv-loop μ-loop = search in let a = at-start .args in
     let at = c .before .before .before .loop in

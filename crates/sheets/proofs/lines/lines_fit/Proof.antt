@@ -15,7 +15,7 @@ unused-requires c κs = search needs
 
 returns : tie.Need-returns
 unfolding operandsFit
-returns c = cc
+returns c = rw (c .unused .ensures, c .before .refers-above .ensures)
 
 pub lines-fit-spec : {M : Type 1} → statement M
 lines-fit-spec = tie.close (tie.spec refers-above-requires add-unused unused-requires returns)

@@ -1,6 +1,12 @@
--- `path_fits` meets its contract: the tests of question 15 of a path line together; with more than 4 variables the record is too short.
-use Rattle.sheets.proofs.PathLines.{parts, too-many}
+-- `path_fits` meets its contract: the tests of question 15 of a path line; with more than 4 variables the record is too short.
 use borrow.Author.Needs.{needs}
+use mathlib.Core.Path.{sym}
+use mathlib.Core.Bool.{and-false}
+use native.Mathlib.Omega.{arith}
+use Prim.Native.Nat.{_+_}
+use borrow.Author.Tests.{lt-leb}
+use Rattle.sheets.specs.Format.{lineWords}
+use Rattle.sheets.specs.Rules.{unused, pathFits}
 use Rattle.sheets.proofs.lines.path_fits.Statement.{statement}
 use Rattle.sheets.proofs.lines.path_fits.Tie as tie
 
@@ -11,9 +17,11 @@ variables-requires : tie.Need-variables-requires
 variables-requires c κs = search needs
 
 returns : tie.Need-returns
+unfolding pathFits unused
 returns c =
-    let after-line-word : tie.After-line-word = search in let a = after-line-word .before .before .args in
-    too-many (a .r .now) (a .j) _ (after-line-word .line-word .ensures) _ (c .before .variables .ensures) (c .if1 .taken)
+    let v = c .before .variables .result in
+    let named = c .before .before .line-word .ensures in
+    sym (rw (← (rw named at (c .before .variables .ensures))) (simp (lt-leb (2 + v) lineWords (omega arith), and-false)))
 
 automata-requires : tie.Need-automata-requires
 automata-requires c κs = search needs
@@ -31,10 +39,17 @@ unused-requires : tie.Need-unused-requires
 unused-requires c κs = search needs
 
 returns-2 : tie.Need-returns-2
+unfolding pathFits
 returns-2 c =
-    let after-variables : tie.After-variables = search in
-    let read = after-variables .before in
-    cc (parts (read .before .before .args .r .now) (read .before .before .args .j) _ (read .line-word .ensures) _ (after-variables .variables .ensures))
+    let after-line-word : tie.After-line-word = search in let after-variables : tie.After-variables = search in
+    rw (
+      c .unused .ensures,
+      c .before .refers-above .ensures,
+      c .before .before .within .ensures,
+      c .before .before .before .automata .ensures,
+      after-variables .variables .ensures,
+      after-line-word .line-word .ensures,
+    )
 
 pub path-fits-spec : {M : Type 1} → statement M
 path-fits-spec =

@@ -1,6 +1,5 @@
 -- `path_line` meets its contract.
 use borrow.Author.Needs.{needs}
-use Rattle.sheets.specs.inner.Lines.{pathLine}
 use Rattle.sheets.proofs.lines.path_line.Statement.{statement}
 use Rattle.sheets.proofs.lines.path_line.Tie as tie
 
@@ -20,7 +19,6 @@ line-word-requires-5 : tie.Need-line-word-requires-5
 line-word-requires-5 c κs = search needs
 
 returns : tie.Need-returns
-unfolding pathLine
 returns c =
     let fourth = c .before in
     let third = fourth .before in

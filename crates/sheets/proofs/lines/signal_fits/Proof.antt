@@ -15,7 +15,7 @@ unused-requires c κs = search needs
 
 returns : tie.Need-returns
 unfolding operandsFit
-returns c = cc
+returns c = rw (c .unused .ensures, c .before .within .ensures, c .before .before .line-word .ensures)
 
 pub signal-fits-spec : {M : Type 1} → statement M
 signal-fits-spec = tie.close (tie.spec line-word-requires within-requires unused-requires returns)

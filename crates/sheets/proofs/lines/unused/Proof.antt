@@ -16,7 +16,7 @@ abbrev μ-loop : tie.MeasureT-loop
 μ-loop r j c n i₀ i = n - i
 
 returns : tie.Need-returns Inv-loop μ-loop
-unfolding unused lent
+unfolding unused
 returns c = simp (lt-leb _ 6 (c .if1 .taken))
 
 loop-holds : tie.Need-loop-holds Inv-loop μ-loop
@@ -35,7 +35,7 @@ line-word-requires : tie.Need-line-word-requires Inv-loop μ-loop
 line-word-requires c κs = search needs
 
 returns-2 : tie.Need-returns-2 Inv-loop μ-loop
-unfolding unused lent
+unfolding unused
 returns-2 c =
     let else1 : tie.Else1 Inv-loop μ-loop = search in let turn : tie.In-loop Inv-loop μ-loop = search in
     let f = ne-eqb _ 0 (λ e. c .if2 .taken (c .before .line-word .ensures ∙ e)) in
@@ -50,7 +50,7 @@ loop-again c =
     each-goes (turn .before .loop .inv) (turn .loop-test .taken) (eq-eqb _ 0 (sym (c .before .line-word .ensures) ∙ c .if2 .left))
 
 returns-3 : tie.Need-returns-3 Inv-loop μ-loop
-unfolding unused lent
+unfolding unused
 returns-3 c =
     let else1 : tie.Else1 Inv-loop μ-loop = search in
     simp (le-leb _ 6 (else1 .if1 .left)) (each-ends (c .before .loop .inv) (c .loop-test .left))

@@ -1,6 +1,5 @@
 -- `edge_word` meets its contract.
 use borrow.Author.Needs.{needs}
-use Rattle.sheets.specs.MachineForms.{edgeWord}
 use Rattle.sheets.proofs.machine.edge_word.Statement.{statement}
 use Rattle.sheets.proofs.machine.edge_word.Tie as tie
 
@@ -14,7 +13,6 @@ record-word-requires : tie.Need-record-word-requires
 record-word-requires c κs = search needs
 
 returns : tie.Need-returns
-unfolding edgeWord
 returns c = rw (c .before .edges-from .ensures, c .before .before .nodes .ensures) at (c .record-word .ensures)
 
 pub edge-word-spec : {M : Type 1} → statement M

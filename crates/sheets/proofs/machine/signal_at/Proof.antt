@@ -2,7 +2,6 @@
 use mathlib.Core.Path.{_≡_}
 use Prim.Native.Nat.{_-_}
 use native.Mathlib.Omega.{arith}
-use Rattle.sheets.specs.Machine.{signalAt}
 use borrow.Author.Needs.{needs}
 use Rattle.sheets.proofs.machine.signal_at.Statement.{statement}
 use Rattle.sheets.proofs.machine.signal_at.Tie as tie
@@ -14,7 +13,6 @@ bit-requires : tie.Need-bit-requires
 bit-requires c κs = search needs
 
 returns : tie.Need-returns
-unfolding signalAt
 returns c =
     let at-start : tie.Start = search in let z : at-start .args .i - 1 ≡ 0 = omega arith in
     rw (z, ← (c .before .before .node-word .ensures)) (c .bit .ensures)
@@ -26,7 +24,6 @@ bit-requires-2 : tie.Need-bit-requires-2
 bit-requires-2 c κs = search needs
 
 returns-2 : tie.Need-returns-2
-unfolding signalAt
 returns-2 c = rw (← (c .before .before .node-word .ensures)) (c .bit2 .ensures)
 
 pub signal-at-spec : {M : Type 1} → statement M

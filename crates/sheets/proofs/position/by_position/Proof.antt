@@ -2,7 +2,6 @@
 use borrow.Author.Needs.{needs}
 use mathlib.Core.Path.{refl}
 use native.Mathlib.Omega.{arith}
-use Rattle.sheets.specs.Positioned.{stateCount}
 use Rattle.sheets.proofs.PositionedTables.{tabled}
 use Rattle.sheets.proofs.position.by_position.Statement.{statement}
 use Rattle.sheets.proofs.position.by_position.Tie as tie
@@ -14,15 +13,12 @@ states-of-requires : tie.Need-states-of-requires
 states-of-requires c κs = search needs
 
 accepting-row-requires : tie.Need-accepting-row-requires
-unfolding stateCount
 accepting-row-requires c κs = search needs
 
 masks-between-requires : tie.Need-masks-between-requires
-unfolding stateCount
 masks-between-requires c κs = search needs
 
 returns : tie.Need-returns
-unfolding stateCount
 returns c =
     let read = c .before .before .before in
     let start = read .before .before .before in

@@ -1,6 +1,6 @@
--- `q7` meets its contract: the bounds are tested together, each on the word that was read.
+-- `q7` meets its contract: each limit is tested on the word that was read.
 use borrow.Author.Needs.{needs}
-use Rattle.sheets.specs.Rules.{lent, fits, q7}
+use Rattle.sheets.specs.Rules.{fits, q7}
 use Rattle.sheets.proofs.rules.q7.Statement.{statement}
 use Rattle.sheets.proofs.rules.q7.Tie as tie
 
@@ -17,8 +17,10 @@ lines-requires : tie.Need-lines-requires
 lines-requires c κs = search needs
 
 returns : tie.Need-returns
-unfolding q7 lent fits
-returns c = cc
+unfolding q7 fits
+returns c =
+    let read = c .before .before in
+    rw (c .lines .ensures, c .before .transitions .ensures, read .states .ensures, read .before .automata .ensures)
 
 pub q7-spec : {M : Type 1} → statement M
 q7-spec = tie.close (tie.spec automata-requires states-requires transitions-requires lines-requires returns)

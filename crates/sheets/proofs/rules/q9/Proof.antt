@@ -42,7 +42,7 @@ within-requires : tie.Need-within-requires Inv-loop μ-loop
 within-requires c κs = search needs
 
 returns : tie.Need-returns Inv-loop μ-loop
-unfolding q9 lent fits
+unfolding q9 fits
 returns c =
     let turn : tie.In-loop Inv-loop μ-loop = search in
     unless-stops (turn .before .loop .inv) (turn .loop-test .taken) (cc)
@@ -56,7 +56,7 @@ loop-again c =
     unless-goes (turn .before .loop .inv) (turn .loop-test .taken) (cc)
 
 returns-2 : tie.Need-returns-2 Inv-loop μ-loop
-unfolding q9 lent fits
+unfolding q9 fits
 returns-2 c = search each-ends
 
 pub q9-spec : {M : Type 1} → statement M

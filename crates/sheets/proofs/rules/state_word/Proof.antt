@@ -1,6 +1,5 @@
 -- `state_word` meets its contract.
 use borrow.Author.Needs.{needs}
-use Rattle.sheets.specs.Rules.{stateWord}
 use Rattle.sheets.proofs.rules.state_word.Statement.{statement}
 use Rattle.sheets.proofs.rules.state_word.Tie as tie
 
@@ -11,7 +10,6 @@ record-word-requires : tie.Need-record-word-requires
 record-word-requires c κs = search needs
 
 returns : tie.Need-returns
-unfolding stateWord
 returns c = rw (c .before .states-from .ensures) at (c .record-word .ensures)
 
 pub state-word-spec : {M : Type 1} → statement M

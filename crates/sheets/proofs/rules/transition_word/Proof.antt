@@ -1,6 +1,5 @@
 -- `transition_word` meets its contract.
 use borrow.Author.Needs.{needs}
-use Rattle.sheets.specs.Rules.{transitionWord}
 use Rattle.sheets.proofs.rules.transition_word.Statement.{statement}
 use Rattle.sheets.proofs.rules.transition_word.Tie as tie
 
@@ -11,7 +10,6 @@ record-word-requires : tie.Need-record-word-requires
 record-word-requires c κs = search needs
 
 returns : tie.Need-returns
-unfolding transitionWord
 returns c = rw (c .before .transitions-from .ensures) at (c .record-word .ensures)
 
 pub transition-word-spec : {M : Type 1} → statement M

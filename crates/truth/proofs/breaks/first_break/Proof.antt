@@ -4,7 +4,7 @@ use borrow.Author.Needs.{needs}
 use borrow.Author.Tests.{not-true, not-false}
 use native.Mathlib.Omega.{arith}
 use Prim.Native.Nat.{_-_, _≤_}
-use Rattle.sheets.specs.Machine.{nodes, startFlag}
+use Rattle.sheets.specs.Machine.{nodes}
 use Rattle.truth.specs.inner.Rows.{rowHas}
 use Rattle.truth.proofs.breaks.BreakNodes.{PassedTo, passed-none, passed-in, passed-other, outside-found, outside-none}
 use Rattle.truth.proofs.breaks.first_break.Statement.{statement}
@@ -34,7 +34,6 @@ has-requires : tie.Need-has-requires Inv-loop μ-loop
 has-requires c κs = search needs
 
 returns : tie.Need-returns Inv-loop μ-loop
-unfolding startFlag
 returns c =
     let at-start : tie.Start Inv-loop μ-loop = search in let at-loop : tie.At-loop Inv-loop μ-loop = search in let a = at-start .args in
     let at = at-loop .loop in
@@ -57,7 +56,6 @@ loop-less-2 : tie.Need-loop-less-2 Inv-loop μ-loop
 loop-less-2 c = search needs
 
 loop-again-2 : tie.Need-loop-again-2 Inv-loop μ-loop
-unfolding startFlag
 loop-again-2 c =
     let at-start : tie.Start Inv-loop μ-loop = search in let a = at-start .args in
     let at = c .before .before .before .loop in

@@ -7,7 +7,6 @@ use mathlib.Core.List.{List}
 use lib.Dec.{leb}
 use Rattle.sheets.specs.Machine.{nodes}
 use Rattle.sheets.specs.Rules.{lent, lineWord}
-use Rattle.sheets.specs.inner.Lines.{pathLine}
 use Rattle.sheets.specs.declared.lines.PathLine.{PathLine}
 use Rattle.sheets.specs.Positioned.{stateCount}
 use Rattle.truth.specs.Path.{asked, q19}
@@ -45,7 +44,6 @@ mul-result : tie.Need-mul-result
 mul-result c = let h = small (c .before .nodes .result) (c .state-count .result) (search needs) (search needs) in omega arith
 
 returns : tie.Need-returns
-unfolding pathLine
 returns c =
     room-test _ _ _ _ _ _ _ _ (c .before .before .before .asked .ensures) (ap (λ (p : PathLine). p .automaton) (c .before .before .path-line .ensures)) (c .before .nodes .ensures)
     (c .state-count .ensures)

@@ -40,7 +40,6 @@ loop-less : tie.Need-loop-less Inv-loop μ-loop
 loop-less c = omega arith
 
 loop-again : tie.Need-loop-again Inv-loop μ-loop
-unfolding startFlag
 loop-again c =
     let at-start : tie.Start Inv-loop μ-loop = search in let at-loop : tie.At-loop Inv-loop μ-loop = search in let a = at-start .args in
     (omega arith, λ i. c .with .ensures i ∙ sofar-yes (λ k. eqb (startFlag (a .m .now) k) 1) i _ _ (at-loop .loop .inv .1 i) (eq-eqb _ 1 (sym (c .before .before .start-flag .ensures) ∙ c .before .if1 .taken)))
@@ -49,7 +48,6 @@ loop-less-2 : tie.Need-loop-less-2 Inv-loop μ-loop
 loop-less-2 c = omega arith
 
 loop-again-2 : tie.Need-loop-again-2 Inv-loop μ-loop
-unfolding startFlag
 loop-again-2 c =
     let at-start : tie.Start Inv-loop μ-loop = search in let a = at-start .args in
     (omega arith, λ i. sofar-no (λ k. eqb (startFlag (a .m .now) k) 1) i _ _ (c .before .before .before .loop .inv .1 i) (ne-eqb _ 1 (λ e. c .if1 .left (c .before .start-flag .ensures ∙ e))))

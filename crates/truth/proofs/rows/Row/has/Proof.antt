@@ -33,7 +33,7 @@ returns-3 : tie.Need-returns-3
 returns-3 c = bit-read _ _ ∙ sym (held-high _ _ _ (omega arith) (omega arith))
 
 returns-4 : tie.Need-returns-4
-returns-4 c = sym (held-out _ _ _ (past-row _ (omega arith)))
+returns-4 c = let at-start : tie.Start = search in sym (held-out _ _ _ (past-row (at-start .args .s) (omega arith)))
 
 pub has-spec : {M : Type 1} → statement M
 has-spec =

@@ -4,7 +4,7 @@ use Rattle.truth.proofs.rows.Row.with.Statement.{statement}
 use Rattle.truth.proofs.rows.Row.with.Tie as tie
 
 returns : tie.Need-returns
-returns c i = with-out _ _ _ i (not-in-row _ (c .if1 .taken))
+returns c i = with-out _ _ (c .before .args .s) i (not-in-row _ (c .if1 .taken))
 
 sub-t4 : tie.Need-sub-t4
 sub-t4 c = omega arith
@@ -31,7 +31,7 @@ returns-3 : tie.Need-returns-3
 returns-3 c i = with-high _ _ _ i (omega arith) (omega arith)
 
 returns-4 : tie.Need-returns-4
-returns-4 c i = with-out _ _ _ i (past-row _ (omega arith))
+returns-4 c i = let at-start : tie.Start = search in let s = at-start .args .s in with-out _ _ s i (past-row s (omega arith))
 
 pub with-spec : {M : Type 1} → statement M
 with-spec =
