@@ -6,7 +6,7 @@ use mathlib.Core.List.{List, [], _∷_, _++_}
 use Rattle.sheets.specs.Words.{word}
 use Rattle.sheets.specs.Machine.{q1}
 use Rattle.sheets.specs.Worked.{M1, M2}
-use Rattle.input.specs.Bytes.{wordOf, wordsOf, bytesOf}
+use Rattle.input.specs.Bytes.{wordsOf, bytesOf}
 use Rattle.input.specs.Cut.{firstEnd, firstSheet, secondSheet}
 use Rattle.text.specs.Decimals.{digits, decimal}
 use Rattle.input.specs.Lines.{refusedLine}

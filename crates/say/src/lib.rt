@@ -1,4 +1,4 @@
-// Words for a reader, on standard output: a text, a number, a refusal. What a descriptor carries cannot be said in a contract;
+// Words for a reader, on standard output: a text, a line, a number, a refusal. What a descriptor carries cannot be said in a contract;
 // each function is proved safe and ends.
 mod reason; // reason.rt: what is wrong, for each question
 

@@ -9,11 +9,11 @@ use lib.ListN.{length, getD}
 use lib.Dec.{T, not-T, leb, leb→le, ltb, eqb, eqb→eq}
 use Rattle.sheets.specs.Format.{ruleHeader, nextStatePlace}
 use Rattle.sheets.specs.Words.{bit, allOf, member}
-use Rattle.sheets.specs.Rules.{Form, states, automata, variables, initial, statesOf, transitions, transitionsOf, transitionTarget, mask, stateWord, automaton, leads, transitionsFit, distinct, fits, unmixed, lines, lineWord, lineFits, ruleRefusal, q7, q9, q10, automatonFits, q12, q14, q15}
+use Rattle.sheets.specs.Rules.{Form, states, automata, variables, initial, statesOf, transitions, transitionsOf, transitionTarget, mask, stateWord, automaton, leads, transitionsFit, distinct, fits, unmixed, lines, lineWord, lineFits, ruleRefusal, q7, q9, automatonFits, q12, q14, q15}
 use Rattle.sheets.proofs.Tests.{and-left, and-right, and-both}
 use Rattle.sheets.proofs.Search.{within-at, each-at, any-at, any-in, all-at}
 use Rattle.sheets.proofs.Bits.{no-bit}
-use Rattle.sheets.proofs.Chains.{link-most, chain-first, chain-head}
+use Rattle.sheets.proofs.Chains.{chain-first, chain-head}
 use Rattle.sheets.proofs.Questions.{RuleAnswers, rule-answers}
 
 module _ (F : Form) (R : List ℕ) (accepted : ruleRefusal F R ≡ 0) where
@@ -26,10 +26,6 @@ module _ (F : Form) (R : List ℕ) (accepted : ruleRefusal F R ≡ 0) where
   some-line =
       let sizes = leb ruleHeader (length R) && fits (F .automata) (automata R) && fits (F .states) (states R) && fits (F .transitions) (transitions R) in
       leb→le 1 (lines R) (and-right sizes (leb 1 (lines R)) (and-left (sizes && leb 1 (lines R)) (fits (F .lines) (lines R)) (answers .seven)))
-
-  state-link : (q : ℕ) → 1 ≤ q → q ≤ states R → stateWord R q nextStatePlace ≤ states R
-  unfolding q10
-  state-link q lo hi = link-most (states R) q (stateWord R q nextStatePlace) (search (and-right, each-at (states R) _ (answers .ten) q lo hi))
 
   -- line j passes question 15
   pub line-fits : (j : ℕ) → 1 ≤ j → j ≤ lines R → T (lineFits F R j (lineWord F R j 0))

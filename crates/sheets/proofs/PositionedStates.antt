@@ -6,7 +6,6 @@ use Prim.Native.Nat.{ℕ, _+_, _-_, _^_, _≤_, _<_}
 use native.Mathlib.Omega.{arith}
 use mathlib.Core.List.{List, [], _∷_}
 use mathlib.Core.Bool.{Bool, false, not, _&&_}
-use lib.ListN.{length}
 use lib.Dec.{T, T-not, not-T, eqb, eqb→eq, eqb-refl}
 use Rattle.sheets.specs.Format.{variablesMost, chainedMost}
 use Rattle.sheets.specs.Words.{bit, within, anyOf, member, indicator, howMany}

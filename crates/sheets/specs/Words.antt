@@ -1,7 +1,7 @@
 -- What both kinds of sheet share: words, bits, tests of many records, and chains of records.
 use Prim.Native.Nat.{ℕ, zero, suc, _+_, _/_, _%_, _^_}
 use mathlib.Core.List.{List, [], _∷_}
-use mathlib.Core.Bool.{Bool, true, false, not, _&&_, _||_}
+use mathlib.Core.Bool.{Bool, true, false, _&&_, _||_}
 use lib.ListN.{getD}
 use lib.Dec.{leb, ltb, eqb}
 

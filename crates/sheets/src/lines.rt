@@ -100,7 +100,12 @@ fn refers_above(r: &[u16], j: u16, c: u16, n: u16) -> bool
 fn signal_fits(r: &[u16], j: u16) -> bool
     ensures { λ b. ⌜ b ≡ Rules.operandsFit Rules.lent (now (r .entry)) j oneSignal ⌝ }
 {
-    words::within(1, format::SIGNALS_MOST, rules::line_word(r, j, format::OPERAND)) & unused(r, j, SECOND_OPERAND)
+    words::within(
+        1,
+        format::SIGNALS_MOST,
+        rules::line_word(r, j, format::OPERAND),
+    )
+        & unused(r, j, SECOND_OPERAND)
 }
 
 // Question 15 of the words of an operation on n lines above.
@@ -120,7 +125,9 @@ fn path_fits(r: &[u16], j: u16) -> bool
     if v > format::VARIABLES_MOST {
         return false;
     }
-    words::within(1, rules::automata(r), x) & refers_above(r, j, format::OPERAND, v) & unused(r, j, SECOND_OPERAND + v)
+    words::within(1, rules::automata(r), x)
+        & refers_above(r, j, format::OPERAND, v)
+        & unused(r, j, SECOND_OPERAND + v)
 }
 
 // The automaton and the lines that the words of line j name.

@@ -9,7 +9,7 @@ use mathlib.Core.Bool.{Bool, true, false, cond, _||_}
 use lib.ListN.{length, getD, length-append}
 use lib.Dec.{eqb}
 use borrow.Author.Tests.{le-leb, ne-eqb}
-use Rattle.text.specs.Texts.{Read, words, withWord, number, gap, sortOf, blank, next, commented, uncommented, reading, readingOf}
+use Rattle.text.specs.Texts.{Read, words, withWord, number, gap, sortOf, next, uncommented, reading, readingOf}
 use Rattle.text.specs.Decimals.{decimal}
 use Rattle.text.specs.Layout.{enderOf, textFrom, textOf}
 use Rattle.text.specs.declared.read.Place.{Place}

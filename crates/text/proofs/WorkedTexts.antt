@@ -2,9 +2,9 @@
 use mathlib.Core.Path.{_≡_, refl}
 use Prim.Native.Nat.{ℕ}
 use mathlib.Core.List.{[], _∷_}
-use Rattle.text.specs.Texts.{words, fault, withWord, blank, sortOf, commented, uncommented, next, reading, readingOf}
+use Rattle.text.specs.Texts.{words, fault, withWord, sortOf, uncommented, reading, readingOf}
 use Rattle.text.specs.Decimals.{digits, decimal}
-use Rattle.text.specs.Layout.{enderOf, textFrom, textOf}
+use Rattle.text.specs.Layout.{textFrom, textOf}
 use Rattle.text.specs.declared.read.Place.{Place}
 use Rattle.text.specs.declared.read.Kind.the-variants.{NotDecimal, Above, NoRoom}
 

@@ -32,7 +32,7 @@ unfolding refersAbove
 returns c =
     let turn : tie.In-loop Inv-loop μ-loop = search in
     let law = within-below (turn .before .before .before .args .j) (c .before .line-word .result) in
-    unless-stops (turn .before .loop .inv) (turn .loop-test .taken) (cc)
+    unless-stops (turn .before .loop .inv) (turn .loop-test .taken) (rw (law, c .before .line-word .ensures) at (c .if1 .taken))
 
 loop-less : tie.Need-loop-less Inv-loop μ-loop
 loop-less c = search needs
@@ -41,7 +41,7 @@ loop-again : tie.Need-loop-again Inv-loop μ-loop
 loop-again c =
     let turn : tie.In-loop Inv-loop μ-loop = search in
     let law = within-below (turn .before .before .before .args .j) (c .before .line-word .result) in
-    unless-goes (turn .before .loop .inv) (turn .loop-test .taken) (cc)
+    unless-goes (turn .before .loop .inv) (turn .loop-test .taken) (rw (law, c .before .line-word .ensures) at (c .if1 .left))
 
 returns-2 : tie.Need-returns-2 Inv-loop μ-loop
 unfolding refersAbove

@@ -40,7 +40,9 @@ returns : tie.Need-returns Inv-loop μ-loop
 unfolding q5
 returns c =
     let turn : tie.In-loop Inv-loop μ-loop = search in
-    unless-stops (turn .before .loop .inv) (turn .loop-test .taken) (cc)
+    let read = turn .before .before in
+    let said = rw (c .before .link .ensures, c .before .before .edge-word2 .ensures, c .before .before .before .within .ensures, c .before .before .before .before .edge-word .ensures, read .edges .ensures, read .before .nodes .ensures) at (c .if1 .taken) in
+    unless-stops (turn .before .loop .inv) (turn .loop-test .taken) said
 
 loop-less : tie.Need-loop-less Inv-loop μ-loop
 loop-less c = search needs
@@ -48,7 +50,9 @@ loop-less c = search needs
 loop-again : tie.Need-loop-again Inv-loop μ-loop
 loop-again c =
     let turn : tie.In-loop Inv-loop μ-loop = search in
-    unless-goes (turn .before .loop .inv) (turn .loop-test .taken) (cc)
+    let read = turn .before .before in
+    let said = rw (c .before .link .ensures, c .before .before .edge-word2 .ensures, c .before .before .before .within .ensures, c .before .before .before .before .edge-word .ensures, read .edges .ensures, read .before .nodes .ensures) at (c .if1 .left) in
+    unless-goes (turn .before .loop .inv) (turn .loop-test .taken) said
 
 returns-2 : tie.Need-returns-2 Inv-loop μ-loop
 unfolding q5

@@ -6,7 +6,7 @@ use mathlib.Core.Bool.{Bool, _&&_}
 use lib.Dec.{leb}
 use Rattle.sheets.specs.Format.{variablesMost}
 use Rattle.sheets.specs.Words.{within}
-use Rattle.sheets.specs.Rules.{lent, fits, automata, states, variables, initial, q9}
+use Rattle.sheets.specs.Rules.{fits, automata, states, variables, initial, q9}
 use Rattle.sheets.proofs.EachLoops.{Tested, each-starts, unless-goes, unless-stops, each-ends}
 use Rattle.sheets.proofs.rules.q9.Statement.{statement}
 use Rattle.sheets.proofs.rules.q9.Tie as tie
@@ -45,7 +45,9 @@ returns : tie.Need-returns Inv-loop μ-loop
 unfolding q9 fits
 returns c =
     let turn : tie.In-loop Inv-loop μ-loop = search in
-    unless-stops (turn .before .loop .inv) (turn .loop-test .taken) (cc)
+    let read = turn .before .before in
+    let said = rw (c .before .within .ensures, c .before .before .initial .ensures, c .before .before .before .variables .ensures, read .states .ensures) at (c .if1 .taken) in
+    unless-stops (turn .before .loop .inv) (turn .loop-test .taken) said
 
 loop-less : tie.Need-loop-less Inv-loop μ-loop
 loop-less c = search needs
@@ -53,7 +55,9 @@ loop-less c = search needs
 loop-again : tie.Need-loop-again Inv-loop μ-loop
 loop-again c =
     let turn : tie.In-loop Inv-loop μ-loop = search in
-    unless-goes (turn .before .loop .inv) (turn .loop-test .taken) (cc)
+    let read = turn .before .before in
+    let said = rw (c .before .within .ensures, c .before .before .initial .ensures, c .before .before .before .variables .ensures, read .states .ensures) at (c .if1 .left) in
+    unless-goes (turn .before .loop .inv) (turn .loop-test .taken) said
 
 returns-2 : tie.Need-returns-2 Inv-loop μ-loop
 unfolding q9 fits

@@ -1,7 +1,7 @@
 use native.Mathlib.Omega.{arith}
 use borrow.Author.Needs.{needs}
-use mathlib.Core.Path.{sym, _∙_}
-use Prim.Native.Nat.{_<_, _^_}
+use mathlib.Core.Path.{sym}
+use Prim.Native.Nat.{_<_}
 use borrow.Author.Tests.{lt-ltb}
 use lib.Pow.{pow-mono}
 use native.Mathlib.Nat.{lt-of-lt-of-le}
