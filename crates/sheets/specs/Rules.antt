@@ -72,8 +72,12 @@ stateWord R q k = recordWord R (Format.statesFrom (automata R)) Format.stateWord
 abbrev pub transitionWord : List ℕ → ℕ → ℕ → ℕ
 transitionWord R y k = recordWord R (Format.transitionsFrom (automata R) (states R)) Format.transitionWords y k
 
+-- where the lines begin
+abbrev pub linesFrom : List ℕ → ℕ
+linesFrom R = Format.linesFrom (automata R) (states R) (transitions R)
+
 abbrev pub lineWord : Form → List ℕ → ℕ → ℕ → ℕ
-lineWord F R j k = recordWord R (Format.linesFrom (automata R) (states R) (transitions R)) (F .lineWords) j k
+lineWord F R j k = recordWord R (linesFrom R) (F .lineWords) j k
 
 -- an automaton: its variables, its initial state, the states on its chain
 abbrev pub variables : List ℕ → ℕ → ℕ

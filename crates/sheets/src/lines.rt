@@ -4,7 +4,7 @@ ghost use mathlib.Core.List.{_∷_, []};
 ghost use Prim.Native.Nat.{ℕ, _+_, _-_, _*_, _^_, _<_, _≤_};
 ghost use Rattle.sheets.specs.Questions.{ask, firstNo};
 ghost use lib.Dec.{T};
-ghost use Rattle.sheets.specs.Format.{operationPlace, variablesMost};
+ghost use Rattle.sheets.specs.Format.{operationPlace, operandPlace, variablesMost};
 ghost use Rattle.sheets.specs.Operations.{oneSignal, linesAbove};
 ghost use Rattle.sheets.specs.Rules as Rules;
 ghost use Rattle.sheets.specs.inner.Lines as Lines;
@@ -59,11 +59,12 @@ pub enum Decoded {
 pub fn operation(r: &[u16], j: u16) -> u16
     ensures { λ o. ⌜ o ≡ Rules.lineWord Rules.lent (now (r .entry)) j operationPlace ⌝ }
 {
-    rules::line_word(r, j, format::OPERATION)
+    rules::line_word(r, rules::lines_from(r), j, format::OPERATION)
 }
 
 // The words of line j from word c on are zero, and c is at most the record's length.
-fn unused(r: &[u16], j: u16, c: u16) -> bool
+fn unused(r: &[u16], from: u32, j: u16, c: u16) -> bool
+    requires { ⌜ from ≡ Rules.linesFrom (now r) ⌝ }
     ensures { λ b. ⌜ b ≡ Rules.unused Rules.lent (now (r .entry)) j c ⌝ }
 {
     if c > format::LINE_WORDS {
@@ -73,7 +74,7 @@ fn unused(r: &[u16], j: u16, c: u16) -> bool
     let mut i: u16 = 0;
     while i < n {
         i += 1;
-        if rules::line_word(r, j, c + i - 1) != 0 {
+        if rules::line_word(r, from, j, c + i - 1) != 0 {
             return false;
         }
     }
@@ -81,14 +82,14 @@ fn unused(r: &[u16], j: u16, c: u16) -> bool
 }
 
 // Words c + 1 to c + n of line j refer to lines above it.
-fn refers_above(r: &[u16], j: u16, c: u16, n: u16) -> bool
-    requires { ⌜ (c ≤ 1) × (n ≤ variablesMost) ⌝ }
+fn refers_above(r: &[u16], from: u32, j: u16, c: u16, n: u16) -> bool
+    requires { ⌜ (from ≡ Rules.linesFrom (now r)) × (c ≤ 1) × (n ≤ variablesMost) ⌝ }
     ensures { λ b. ⌜ b ≡ Rules.refersAbove Rules.lent (now (r .entry)) j c n ⌝ }
 {
     let mut i: u16 = 0;
     while i < n {
         i += 1;
-        let k = rules::line_word(r, j, c + i);
+        let k = rules::line_word(r, from, j, c + i);
         if !((0 < k) & (k < j)) {
             return false;
         }
@@ -97,48 +98,51 @@ fn refers_above(r: &[u16], j: u16, c: u16, n: u16) -> bool
 }
 
 // Question 15 of a signal's words.
-fn signal_fits(r: &[u16], j: u16) -> bool
+fn signal_fits(r: &[u16], from: u32, j: u16) -> bool
+    requires { ⌜ from ≡ Rules.linesFrom (now r) ⌝ }
     ensures { λ b. ⌜ b ≡ Rules.operandsFit Rules.lent (now (r .entry)) j oneSignal ⌝ }
 {
     words::within(
         1,
         format::SIGNALS_MOST,
-        rules::line_word(r, j, format::OPERAND),
+        rules::line_word(r, from, j, format::OPERAND),
     )
-        & unused(r, j, SECOND_OPERAND)
+        & unused(r, from, j, SECOND_OPERAND)
 }
 
 // Question 15 of the words of an operation on n lines above.
-fn lines_fit(r: &[u16], j: u16, n: u16) -> bool
-    requires { ⌜ n ≤ variablesMost ⌝ }
+fn lines_fit(r: &[u16], from: u32, j: u16, n: u16) -> bool
+    requires { ⌜ (from ≡ Rules.linesFrom (now r)) × (n ≤ variablesMost) ⌝ }
     ensures { λ b. ⌜ b ≡ Rules.operandsFit Rules.lent (now (r .entry)) j (linesAbove n) ⌝ }
 {
-    refers_above(r, j, format::OPERATION, n) & unused(r, j, format::OPERAND + n)
+    refers_above(r, from, j, format::OPERATION, n) & unused(r, from, j, format::OPERAND + n)
 }
 
 // Question 15 of a path line's words.
-fn path_fits(r: &[u16], j: u16) -> bool
+fn path_fits(r: &[u16], from: u32, j: u16) -> bool
+    requires { ⌜ from ≡ Rules.linesFrom (now r) ⌝ }
     ensures { λ b. ⌜ b ≡ Rules.pathFits Rules.lent (now (r .entry)) j ⌝ }
 {
-    let x = rules::line_word(r, j, format::OPERAND);
+    let x = rules::line_word(r, from, j, format::OPERAND);
     let v = rules::variables(r, x);
     if v > format::VARIABLES_MOST {
         return false;
     }
     words::within(1, rules::automata(r), x)
-        & refers_above(r, j, format::OPERAND, v)
-        & unused(r, j, SECOND_OPERAND + v)
+        & refers_above(r, from, j, format::OPERAND, v)
+        & unused(r, from, j, SECOND_OPERAND + v)
 }
 
 // The automaton and the lines that the words of line j name.
-pub fn path_line(r: &[u16], j: u16) -> PathLine
-    ensures { λ p. ⌜ p ≡ Lines.pathLine (Rules.lineWord Rules.lent (now (r .entry)) j 1) (λ i. Rules.lineWord Rules.lent (now (r .entry)) j (2 + i)) ⌝ }
+fn path_line_from(r: &[u16], from: u32, j: u16) -> PathLine
+    requires { ⌜ from ≡ Rules.linesFrom (now r) ⌝ }
+    ensures { λ p. ⌜ p ≡ Lines.pathLine (Rules.lineWord Rules.lent (now (r .entry)) j operandPlace) (λ i. Rules.lineWord Rules.lent (now (r .entry)) j (operandPlace + 1 + i)) ⌝ }
 {
-    let automaton = rules::line_word(r, j, format::OPERAND);
-    let first = rules::line_word(r, j, SECOND_OPERAND);
-    let second = rules::line_word(r, j, THIRD_OPERAND);
-    let third = rules::line_word(r, j, FOURTH_OPERAND);
-    let fourth = rules::line_word(r, j, FIFTH_OPERAND);
+    let automaton = rules::line_word(r, from, j, format::OPERAND);
+    let first = rules::line_word(r, from, j, SECOND_OPERAND);
+    let second = rules::line_word(r, from, j, THIRD_OPERAND);
+    let third = rules::line_word(r, from, j, FOURTH_OPERAND);
+    let fourth = rules::line_word(r, from, j, FIFTH_OPERAND);
     PathLine {
         automaton,
         first,
@@ -146,6 +150,12 @@ pub fn path_line(r: &[u16], j: u16) -> PathLine
         third,
         fourth,
     }
+}
+
+pub fn path_line(r: &[u16], j: u16) -> PathLine
+    ensures { λ p. ⌜ p ≡ Lines.pathLine (Rules.lineWord Rules.lent (now (r .entry)) j operandPlace) (λ i. Rules.lineWord Rules.lent (now (r .entry)) j (operandPlace + 1 + i)) ⌝ }
+{
+    path_line_from(r, rules::lines_from(r), j)
 }
 
 // The lines of a path line's variables, in their order.
@@ -159,33 +169,39 @@ pub fn arguments(p: PathLine) -> [u16; format::VARIABLES]
 pub fn decode(r: &[u16], j: u16) -> Decoded
     ensures { λ d. ⌜ d ≡ Lines.decoded (now (r .entry)) j ⌝ }
 {
-    let op = operation(r, j);
+    let from = rules::lines_from(r);
+    let op = rules::line_word(r, from, j, format::OPERATION);
     match op {
         SIGNAL => {
-            if signal_fits(r, j) {
-                return Decoded::Formed(Line::Signal(rules::line_word(r, j, format::OPERAND)));
+            if signal_fits(r, from, j) {
+                return Decoded::Formed(Line::Signal(rules::line_word(r, from, j, format::OPERAND)));
             }
         }
         NEGATION => {
-            if lines_fit(r, j, 1) {
-                return Decoded::Formed(Line::Negation(rules::line_word(r, j, format::OPERAND)));
+            if lines_fit(r, from, j, 1) {
+                return Decoded::Formed(Line::Negation(rules::line_word(
+                    r,
+                    from,
+                    j,
+                    format::OPERAND,
+                )));
             }
         }
         EITHER => {
-            if lines_fit(r, j, 2) {
-                let first = rules::line_word(r, j, format::OPERAND);
-                let second = rules::line_word(r, j, SECOND_OPERAND);
+            if lines_fit(r, from, j, 2) {
+                let first = rules::line_word(r, from, j, format::OPERAND);
+                let second = rules::line_word(r, from, j, SECOND_OPERAND);
                 return Decoded::Formed(Line::Either(first, second));
             }
         }
         SOME_PATH => {
-            if path_fits(r, j) {
-                return Decoded::Formed(Line::SomePath(path_line(r, j)));
+            if path_fits(r, from, j) {
+                return Decoded::Formed(Line::SomePath(path_line_from(r, from, j)));
             }
         }
         SOME_PATH_NOT => {
-            if path_fits(r, j) {
-                return Decoded::Formed(Line::SomePathNot(path_line(r, j)));
+            if path_fits(r, from, j) {
+                return Decoded::Formed(Line::SomePathNot(path_line_from(r, from, j)));
             }
         }
         _ => {}

@@ -10,10 +10,10 @@ use Rattle.sheets.proofs.lines.refers_above.Statement.{statement}
 use Rattle.sheets.proofs.lines.refers_above.Tie as tie
 
 abbrev Inv-loop : tie.InvT-loop
-Inv-loop r j c n i₀ i = Tested (λ k. within 1 (j - 1) (lineWord lent r j (c + k))) n n i
+Inv-loop r from j c n i₀ i = Tested (λ k. within 1 (j - 1) (lineWord lent r j (c + k))) n n i
 
 abbrev μ-loop : tie.MeasureT-loop
-μ-loop r j c n i₀ i = n - i
+μ-loop r from j c n i₀ i = n - i
 
 loop-holds : tie.Need-loop-holds Inv-loop μ-loop
 loop-holds c = each-starts refl

@@ -10,10 +10,10 @@ use Rattle.sheets.proofs.lines.unused.Statement.{statement}
 use Rattle.sheets.proofs.lines.unused.Tie as tie
 
 abbrev Inv-loop : tie.InvT-loop
-Inv-loop r j c n i₀ i = Tested (λ k. eqb (lineWord lent r j (c + k - 1)) 0) (6 - c) n i
+Inv-loop r from j c n i₀ i = Tested (λ k. eqb (lineWord lent r j (c + k - 1)) 0) (6 - c) n i
 
 abbrev μ-loop : tie.MeasureT-loop
-μ-loop r j c n i₀ i = n - i
+μ-loop r from j c n i₀ i = n - i
 
 returns : tie.Need-returns Inv-loop μ-loop
 unfolding unused

@@ -3,14 +3,11 @@ use borrow.Author.Needs.{needs}
 use Rattle.sheets.proofs.rules.line_word.Statement.{statement}
 use Rattle.sheets.proofs.rules.line_word.Tie as tie
 
-lines-from-requires : tie.Need-lines-from-requires
-lines-from-requires c κs = search needs
-
 record-word-requires : tie.Need-record-word-requires
 record-word-requires c κs = search needs
 
 returns : tie.Need-returns
-returns c = rw (c .before .lines-from .ensures) at (c .record-word .ensures)
+returns c = rw (c .before .before .pre) at (c .record-word .ensures)
 
 pub line-word-spec : {M : Type 1} → statement M
-line-word-spec = tie.close (tie.spec lines-from-requires record-word-requires returns)
+line-word-spec = tie.close (tie.spec record-word-requires returns)

@@ -1,7 +1,7 @@
--- `path_line` meets its contract.
+-- `path_line_from` meets its contract.
 use borrow.Author.Needs.{needs}
-use Rattle.sheets.proofs.lines.path_line.Statement.{statement}
-use Rattle.sheets.proofs.lines.path_line.Tie as tie
+use Rattle.sheets.proofs.lines.path_line_from.Statement.{statement}
+use Rattle.sheets.proofs.lines.path_line_from.Tie as tie
 
 line-word-requires : tie.Need-line-word-requires
 line-word-requires c κs = search needs
@@ -32,5 +32,5 @@ returns c =
       ← (c .line-word5 .ensures),
     )
 
-pub path-line-spec : {M : Type 1} → statement M
-path-line-spec = tie.close (tie.spec line-word-requires line-word-requires-2 line-word-requires-3 line-word-requires-4 line-word-requires-5 returns)
+pub path-line-from-spec : {M : Type 1} → statement M
+path-line-from-spec = tie.close (tie.spec line-word-requires line-word-requires-2 line-word-requires-3 line-word-requires-4 line-word-requires-5 returns)
