@@ -5,32 +5,32 @@ use native.Mathlib.Omega.{arith}
 use mathlib.Core.List.{List}
 use lib.ListN.{length, getD}
 use lib.Seq.{getD-take}
-use Rattle.truth.specs.Passed.{lineWords}
+use Rattle.truth.specs.Passed.{lineWords, operationPlace, operandPlace, signalOperation, negationOperation, eitherOperation, somePathOperation}
 use Rattle.comparison.specs.inner.Lines.{Entry, sig, neg, alt, next, words, writtenWords, entry, HoldsLines}
 use Rattle.comparison.proofs.Lines.{word-of-line}
 
-by-zero : (l : Entry) → getD (words l) 0 0 ≡ 0 → l ≡ sig (getD (words l) 1 0)
+by-signal : (l : Entry) → getD (words l) operationPlace 0 ≡ signalOperation → l ≡ sig (getD (words l) operandPlace 0)
 unfolding words
-by-zero (sig i) e = refl
-by-zero (neg j) e = absurd (omega arith)
-by-zero (alt i j) e = absurd (omega arith)
-by-zero (next j) e = absurd (omega arith)
+by-signal (sig i) e = refl
+by-signal (neg j) e = absurd (omega arith)
+by-signal (alt i j) e = absurd (omega arith)
+by-signal (next j) e = absurd (omega arith)
 
-by-one : (l : Entry) → getD (words l) 0 0 ≡ 1 → l ≡ neg (getD (words l) 1 0)
+by-negation : (l : Entry) → getD (words l) operationPlace 0 ≡ negationOperation → l ≡ neg (getD (words l) operandPlace 0)
 unfolding words
-by-one (sig i) e = absurd (omega arith)
-by-one (neg j) e = refl
-by-one (alt i j) e = absurd (omega arith)
-by-one (next j) e = absurd (omega arith)
+by-negation (sig i) e = absurd (omega arith)
+by-negation (neg j) e = refl
+by-negation (alt i j) e = absurd (omega arith)
+by-negation (next j) e = absurd (omega arith)
 
-by-two : (l : Entry) → getD (words l) 0 0 ≡ 2 → l ≡ alt (getD (words l) 1 0) (getD (words l) 2 0)
+by-either : (l : Entry) → getD (words l) operationPlace 0 ≡ eitherOperation → l ≡ alt (getD (words l) operandPlace 0) (getD (words l) (operandPlace + 1) 0)
 unfolding words
-by-two (sig i) e = absurd (omega arith)
-by-two (neg j) e = absurd (omega arith)
-by-two (alt i j) e = refl
-by-two (next j) e = absurd (omega arith)
+by-either (sig i) e = absurd (omega arith)
+by-either (neg j) e = absurd (omega arith)
+by-either (alt i j) e = refl
+by-either (next j) e = absurd (omega arith)
 
-by-rest : (l : Entry) → 3 ≤ getD (words l) 0 0 → l ≡ next (getD (words l) 2 0)
+by-rest : (l : Entry) → somePathOperation ≤ getD (words l) operationPlace 0 → l ≡ next (getD (words l) (operandPlace + 1) 0)
 unfolding words
 by-rest (sig i) e = absurd (omega arith)
 by-rest (neg j) e = absurd (omega arith)
@@ -48,17 +48,17 @@ module _ (w : List ℕ) (i k : ℕ) (lo : 1 ≤ i) (at : k ≡ lineWords * (i - 
       ∙ ap (λ (l : List ℕ). getD l (k + n) 0) (sym (h .stands))
       ∙ getD-take (lineWords * length ls) w (k + n) 0 b
 
-  first : getD (words (entry ls i)) 0 0 ≡ getD w k 0
-  first = let e : k + 0 ≡ k = omega arith in word-at 0 (omega arith) ∙ ap (λ (j : ℕ). getD w j 0) e
+  first : getD (words (entry ls i)) operationPlace 0 ≡ getD w k 0
+  first = let e : k + operationPlace ≡ k = omega arith in word-at operationPlace (omega arith) ∙ ap (λ (j : ℕ). getD w j 0) e
 
-  pub taken-signal : getD w k 0 ≡ 0 → entry ls i ≡ sig (getD w (k + 1) 0)
-  taken-signal e = by-zero (entry ls i) (first ∙ e) ∙ ap sig (word-at 1 (omega arith))
+  pub taken-signal : getD w k 0 ≡ signalOperation → entry ls i ≡ sig (getD w (k + operandPlace) 0)
+  taken-signal e = by-signal (entry ls i) (first ∙ e) ∙ ap sig (word-at operandPlace (omega arith))
 
-  pub taken-not : getD w k 0 ≡ 1 → entry ls i ≡ neg (getD w (k + 1) 0)
-  taken-not e = by-one (entry ls i) (first ∙ e) ∙ ap neg (word-at 1 (omega arith))
+  pub taken-not : getD w k 0 ≡ negationOperation → entry ls i ≡ neg (getD w (k + operandPlace) 0)
+  taken-not e = by-negation (entry ls i) (first ∙ e) ∙ ap neg (word-at operandPlace (omega arith))
 
-  pub taken-or : getD w k 0 ≡ 2 → entry ls i ≡ alt (getD w (k + 1) 0) (getD w (k + 2) 0)
-  taken-or e = by-two (entry ls i) (first ∙ e) ∙ ap₂ alt (word-at 1 (omega arith)) (word-at 2 (omega arith))
+  pub taken-or : getD w k 0 ≡ eitherOperation → entry ls i ≡ alt (getD w (k + operandPlace) 0) (getD w (k + (operandPlace + 1)) 0)
+  taken-or e = by-either (entry ls i) (first ∙ e) ∙ ap₂ alt (word-at operandPlace (omega arith)) (word-at (operandPlace + 1) (omega arith))
 
-  pub taken-next : 3 ≤ getD w k 0 → entry ls i ≡ next (getD w (k + 2) 0)
-  taken-next e = by-rest (entry ls i) (omega (arith, first)) ∙ ap next (word-at 2 (omega arith))
+  pub taken-next : somePathOperation ≤ getD w k 0 → entry ls i ≡ next (getD w (k + (operandPlace + 1)) 0)
+  taken-next e = by-rest (entry ls i) (omega (arith, first)) ∙ ap next (word-at (operandPlace + 1) (omega arith))

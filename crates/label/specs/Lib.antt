@@ -1,2 +1,3 @@
 -- The definitions of the labelling program.
 pub mod Program
+pub mod inner

@@ -22,9 +22,3 @@ pub record LabelledSheets (M R before after : List ℕ) (answer : Answer) : Type
 abbrev pub Answered : List ℕ → List ℕ → List ℕ → Answer → Type 0
 Answered bytes before after answer =
     Reply sheetsBytes bytes ((answer .labelled ≡ Refused 0 0) × (after ≡ before)) (λ (M R : List ℕ). LabelledSheets M R before after answer)
-
--- an answer to some bytes, with the rows that it leaves
-pub record Answers (after : List ℕ) (answer : Answer) : Type 0 where
-  pub bytes : List ℕ
-  pub before : List ℕ
-  pub answered : Answered bytes before after answer

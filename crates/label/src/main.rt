@@ -3,7 +3,7 @@
 mod answer; // answer.rt: what is answered to the input
 mod print; // print.rt: what is printed
 
-ghost use Rattle.label.specs.Program.{Answers};
+ghost use Rattle.label.specs.inner.AnsweredRows.{AnsweredRows};
 use answer::Answer;
 use input::limits;
 use libc::STDIN_FILENO;
@@ -22,7 +22,7 @@ fn main() {
 
 // Prints an answer, whose rows lie in the space.
 fn show(answer: Answer, rows: &[u64])
-    requires { ⌜ Answers (now rows) answer ⌝ }
+    requires { ⌜ AnsweredRows (now rows) answer ⌝ }
 {
     let labelled = answer.labelled;
     match labelled {

@@ -14,12 +14,3 @@ abbrev pub Answered : List ℕ → ℕ → ℕ → List ℕ → List ℕ → Lis
 Answered bytes j s nodesBefore statesBefore nodesAfter statesAfter answer =
     Reply sheetsBytes bytes ((answer ≡ Refused 0 0) × (nodesAfter ≡ nodesBefore) × (statesAfter ≡ statesBefore))
     (λ (M R : List ℕ). PathAnswer M R j s nodesBefore statesBefore nodesAfter statesAfter answer)
-
--- an answer to some bytes, for some line and node, with the lists that it leaves
-pub record Answers (nodesAfter statesAfter : List ℕ) (answer : Shown) : Type 0 where
-  pub bytes : List ℕ
-  pub line : ℕ
-  pub node : ℕ
-  pub nodesBefore : List ℕ
-  pub statesBefore : List ℕ
-  pub answered : Answered bytes line node nodesBefore statesBefore nodesAfter statesAfter answer

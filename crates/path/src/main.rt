@@ -4,7 +4,7 @@ mod answer; // answer.rt: what is answered to the input
 mod arguments; // arguments.rt: what the arguments ask for
 mod print; // print.rt: what is printed
 
-ghost use Rattle.path.specs.Program.{Answers};
+ghost use Rattle.path.specs.inner.AnsweredLists.{AnsweredLists};
 use arguments::Asked;
 use input::limits;
 use libc::STDERR_FILENO;
@@ -31,7 +31,7 @@ fn show(line: u16, node: u16) {
 
 // Prints an answer, whose pairs lie in the lists.
 fn tell(answer: Shown, node: u16, nodes: &[u16], states: &[u16])
-    requires { ⌜ Answers (now nodes) (now states) answer ⌝ }
+    requires { ⌜ AnsweredLists (now nodes) (now states) answer ⌝ }
 {
     match answer {
         Shown::Refused { question, sheet } => say::refusal(question, sheet),

@@ -1,4 +1,4 @@
 -- The definitions of the program for one sheet.
 pub mod Arguments
 pub mod Program
-pub mod Parts
+pub mod inner

@@ -5,7 +5,7 @@
 mod answer; // answer.rt: what is answered to a sheet that is checked, and the line that says it
 mod asked; // asked.rt: what the arguments ask for
 
-ghost use Rattle.sheet.specs.Parts.{Part};
+ghost use Rattle.sheet.specs.inner.Parts.{Part};
 use answer::Answer;
 use answer::Sort;
 use asked::Asked;

@@ -7,7 +7,7 @@ use mathlib.Core.List.{List, map}
 use mathlib.Core.Bool.{Bool, not, _&&_}
 use lib.ListN.{length, getD}
 use lib.Dec.{T, not-T, leb, leb→le, ltb, eqb, eqb→eq}
-use Rattle.sheets.specs.Format.{ruleHeader, nextStatePlace}
+use Rattle.sheets.specs.Format.{ruleHeader, nextStatePlace, operationPlace}
 use Rattle.sheets.specs.Words.{bit, allOf, member}
 use Rattle.sheets.specs.Rules.{Form, states, automata, variables, initial, statesOf, transitions, transitionsOf, transitionTarget, mask, stateWord, automaton, leads, transitionsFit, distinct, fits, unmixed, lines, lineWord, lineFits, ruleRefusal, q7, q9, automatonFits, q12, q14, q15}
 use Rattle.sheets.proofs.Tests.{and-left, and-right, and-both}
@@ -28,7 +28,7 @@ module _ (F : Form) (R : List ℕ) (accepted : ruleRefusal F R ≡ 0) where
       leb→le 1 (lines R) (and-right sizes (leb 1 (lines R)) (and-left (sizes && leb 1 (lines R)) (fits (F .lines) (lines R)) (answers .seven)))
 
   -- line j passes question 15
-  pub line-fits : (j : ℕ) → 1 ≤ j → j ≤ lines R → T (lineFits F R j (lineWord F R j 0))
+  pub line-fits : (j : ℕ) → 1 ≤ j → j ≤ lines R → T (lineFits F R j (lineWord F R j operationPlace))
   unfolding q15
   line-fits = each-at (lines R) _ (answers .fifteen)
 

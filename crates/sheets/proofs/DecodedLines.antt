@@ -3,6 +3,8 @@ use mathlib.Core.Path.{_≡_, refl, sym, _∙_}
 use Prim.Native.Nat.{ℕ, zero, suc}
 use mathlib.Core.List.{List}
 use mathlib.Core.Bool.{Bool, true, false}
+use Rattle.sheets.specs.Format.{operationPlace}
+use Rattle.sheets.specs.Operations.{signalOperation, negationOperation, eitherOperation, somePathOperation, somePathNotOperation}
 use Rattle.sheets.specs.Structures as Structures
 use Rattle.sheets.specs.Rules.{lent, lineWord, lineFits, lineOf, line, signalMost}
 use Rattle.sheets.specs.inner.Lines.{handed, decodedAs, decoded, mostOf}
@@ -12,11 +14,11 @@ use Rattle.sheets.specs.declared.lines.Decoded.the-variants.{Formed, Mal
 
 -- ---- from the operation `op` and the result b of question 15 of it
 
-module _ (R : List ℕ) (j op : ℕ) (read : op ≡ lineWord lent R j 0) where
+module _ (R : List ℕ) (j op : ℕ) (read : op ≡ lineWord lent R j operationPlace) where
   by-fits : (n : ℕ) (t : Bool) → op ≡ n → (b : Bool) → b ≡ lineFits lent R j n → b ≡ t → decodedAs t (lineOf lent R j n) ≡ decoded R j
   unfolding decoded line
   by-fits n t e b q h =
-      let d : lineWord lent R j 0 ≡ n = sym read ∙ e in
+      let d : lineWord lent R j operationPlace ≡ n = sym read ∙ e in
       let f : lineFits lent R j n ≡ t = sym q ∙ h in
       rw (d, f)
 
@@ -24,11 +26,13 @@ module _ (R : List ℕ) (j op : ℕ) (read : op ≡ lineWord lent R j 0) where
   unfolding decodedAs
   unfit n = by-fits n false
 
-  pub unknown : (op ≡ 0 → ⊥) → (op ≡ 1 → ⊥) → (op ≡ 2 → ⊥) → (op ≡ 3 → ⊥) → (op ≡ 4 → ⊥) → Malformed ≡ decoded R j
+  pub unknown : (op ≡ signalOperation → ⊥) → (op ≡ negationOperation → ⊥) → (op ≡ eitherOperation → ⊥) → (op ≡ somePathOperation → ⊥) → (op ≡ somePathNotOperation → ⊥)
+      → Malformed ≡ decoded R j
   unfolding lineFits
   unknown a b c d e = unfit op refl false (other op a b c d e) refl
     where
-      other : (n : ℕ) → (n ≡ 0 → ⊥) → (n ≡ 1 → ⊥) → (n ≡ 2 → ⊥) → (n ≡ 3 → ⊥) → (n ≡ 4 → ⊥) → false ≡ lineFits lent R j n
+      other : (n : ℕ) → (n ≡ signalOperation → ⊥) → (n ≡ negationOperation → ⊥) → (n ≡ eitherOperation → ⊥) → (n ≡ somePathOperation → ⊥) → (n ≡ somePathNotOperation → ⊥)
+          → false ≡ lineFits lent R j n
       other zero a b c d e = absurd (a refl)
       other (suc zero) a b c d e = absurd (b refl)
       other (suc (suc zero)) a b c d e = absurd (c refl)
@@ -43,9 +47,9 @@ module _ (R : List ℕ) (j op : ℕ) (read : op ≡ lineWord lent R j 0) where
 -- ---- back to question 15
 
 module _ (R : List ℕ) (j : ℕ) where
-  pub formed-fits : (l : Line) → decoded R j ≡ Formed l → lineFits lent R j (lineWord lent R j 0) ≡ true
+  pub formed-fits : (l : Line) → decoded R j ≡ Formed l → lineFits lent R j (lineWord lent R j operationPlace) ≡ true
   unfolding decoded
-  formed-fits l e = by (lineFits lent R j (lineWord lent R j 0)) e
+  formed-fits l e = by (lineFits lent R j (lineWord lent R j operationPlace)) e
     where
       by : (b : Bool) → decodedAs b (line lent R j) ≡ Formed l → b ≡ true
       by true e = refl
@@ -61,9 +65,9 @@ module _ (R : List ℕ) (j : ℕ) where
   malformed-by (suc (suc (suc (suc zero)))) true f e = cc
   malformed-by (suc (suc (suc (suc (suc n))))) true f e = sym f
 
-  pub malformed-fails : decoded R j ≡ Malformed → lineFits lent R j (lineWord lent R j 0) ≡ false
+  pub malformed-fails : decoded R j ≡ Malformed → lineFits lent R j (lineWord lent R j operationPlace) ≡ false
   unfolding decoded line
-  malformed-fails e = malformed-by (lineWord lent R j 0) (lineFits lent R j (lineWord lent R j 0)) refl e
+  malformed-fails e = malformed-by (lineWord lent R j operationPlace) (lineFits lent R j (lineWord lent R j operationPlace)) refl e
 
   -- ---- and to question 16
 
@@ -82,10 +86,10 @@ module _ (R : List ℕ) (j : ℕ) where
 
   pub most-decoded : (a : ℕ) (l : Line) → decoded R j ≡ Formed l → mostOf a l ≡ signalMost a (line lent R j)
   unfolding decoded
-  most-decoded a l e = most-by a l (lineFits lent R j (lineWord lent R j 0)) (line lent R j) e
+  most-decoded a l e = most-by a l (lineFits lent R j (lineWord lent R j operationPlace)) (line lent R j) e
 
   -- a line of another operation has no signal number
-  pub other-most : (a op : ℕ) → (op ≡ 0 → ⊥) → signalMost a (lineOf lent R j op) ≡ true
+  pub other-most : (a op : ℕ) → (op ≡ signalOperation → ⊥) → signalMost a (lineOf lent R j op) ≡ true
   unfolding lineOf signalMost
   other-most a zero n = absurd (n refl)
   other-most a (suc zero) n = refl

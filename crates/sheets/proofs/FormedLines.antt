@@ -6,7 +6,7 @@ use mathlib.Core.List.{List}
 use mathlib.Core.Bool.{_&&_}
 use lib.Dec.{T, leb→le, le→leb}
 use Rattle.sheets.specs.Structures.{Automaton, Line, signal, negation, either, somePath, somePathNot, malformed}
-use Rattle.sheets.specs.Format.{signalsMost}
+use Rattle.sheets.specs.Format.{signalsMost, operationPlace, operandPlace}
 use Rattle.sheets.specs.Words.{within}
 use Rattle.sheets.specs.Rules.{Form, automata, automaton, variables, lines, line, lineOf, lineWord, lineFits, pathFits, refersAbove, unused, ruleRefusal, signalMost, overSignals}
 use Rattle.sheets.proofs.Tests.{and-left, and-right}
@@ -31,29 +31,29 @@ module _ (F : Form) (R : List ℕ) (j : ℕ) where
       (r .0, omega arith)
 
   -- a path line: its automaton, and its arguments
-  path-formed : (x : ℕ) → T (within 1 (automata R) x && refersAbove F R j 1 (variables R x) && unused F R j (2 + variables R x))
-      → ((1 ≤ x) × (x ≤ automata R)) × ((i : ℕ) → i < variables R x → (1 ≤ lineWord F R j (2 + i)) × (lineWord F R j (2 + i) < j))
+  path-formed : (x : ℕ) → T (within 1 (automata R) x && refersAbove F R j operandPlace (variables R x) && unused F R j (operandPlace + 1 + variables R x))
+      → ((1 ≤ x) × (x ≤ automata R)) × ((i : ℕ) → i < variables R x → (1 ≤ lineWord F R j (operandPlace + 1 + i)) × (lineWord F R j (operandPlace + 1 + i) < j))
   path-formed x t = (
     within-at 1 (automata R) x (search (and-left, t)),
     λ i l.
-        let e : 1 + suc i ≡ 2 + i = omega arith in
-        rw e at (refers 1 (variables R x) (search (and-left, and-right, t)) (suc i) (omega arith) l),
+        let e : operandPlace + suc i ≡ operandPlace + 1 + i = omega arith in
+        rw e at (refers operandPlace (variables R x) (search (and-left, and-right, t)) (suc i) (omega arith) l),
   )
 
   formed-by : (a op : ℕ) → T (lineFits F R j op) → T (signalMost a (lineOf F R j op)) → Formed a (automata R) (automaton R) j (lineOf F R j op)
   unfolding lineFits pathFits lineOf signalMost Formed automaton
-  formed-by a zero t o = (within-at 1 signalsMost (lineWord F R j 1) (search (and-left, t)) .0, leb→le (lineWord F R j 1) a o)
-  formed-by a (suc zero) t o = refers 0 1 (and-left (refersAbove F R j 0 1) (unused F R j 2) t) 1 (omega arith) (omega arith)
+  formed-by a zero t o = (within-at 1 signalsMost (lineWord F R j operandPlace) (search (and-left, t)) .0, leb→le (lineWord F R j operandPlace) a o)
+  formed-by a (suc zero) t o = refers operationPlace 1 (and-left (refersAbove F R j operationPlace 1) (unused F R j (operandPlace + 1)) t) 1 (omega arith) (omega arith)
   formed-by a (suc (suc zero)) t o =
-      let r = refers 0 2 (and-left (refersAbove F R j 0 2) (unused F R j 3) t) in
+      let r = refers operationPlace 2 (and-left (refersAbove F R j operationPlace 2) (unused F R j (operandPlace + 2)) t) in
       (r 1 (omega arith) (omega arith), r 2 (omega arith) (omega arith))
-  formed-by a (suc (suc (suc zero))) t o = path-formed (lineWord F R j 1) t
-  formed-by a (suc (suc (suc (suc zero)))) t o = path-formed (lineWord F R j 1) t
+  formed-by a (suc (suc (suc zero))) t o = path-formed (lineWord F R j operandPlace) t
+  formed-by a (suc (suc (suc (suc zero)))) t o = path-formed (lineWord F R j operandPlace) t
   formed-by a (suc (suc (suc (suc (suc n))))) t o = t
 
   signal-most : (op : ℕ) → T (lineFits F R j op) → T (signalMost signalsMost (lineOf F R j op))
   unfolding lineFits pathFits lineOf signalMost
-  signal-most zero t = le→leb (lineWord F R j 1) signalsMost (within-at 1 signalsMost (lineWord F R j 1) (search (and-left, t)) .1)
+  signal-most zero t = le→leb (lineWord F R j operandPlace) signalsMost (within-at 1 signalsMost (lineWord F R j operandPlace) (search (and-left, t)) .1)
   signal-most (suc zero) t = tt
   signal-most (suc (suc zero)) t = tt
   signal-most (suc (suc (suc zero))) t = tt
@@ -64,9 +64,9 @@ module _ (F : Form) (R : List ℕ) (accepted : ruleRefusal F R ≡ 0) where
   -- over as many signals as the sheet is
   pub formed : (a : ℕ) → T (overSignals F a R) → (j : ℕ) → 1 ≤ j → j ≤ lines R → Formed a (automata R) (automaton R) j (line F R j)
   unfolding overSignals line
-  formed a o j lo hi = formed-by F R j a (lineWord F R j 0) (line-fits F R accepted j lo hi) (each-at (lines R) _ o j lo hi)
+  formed a o j lo hi = formed-by F R j a (lineWord F R j operationPlace) (line-fits F R accepted j lo hi) (each-at (lines R) _ o j lo hi)
 
   -- every accepted sheet is over the most signals
   pub over-most : T (overSignals F signalsMost R)
   unfolding overSignals line
-  over-most = each-in (lines R) _ (λ j lo hi. signal-most F R j (lineWord F R j 0) (line-fits F R accepted j lo hi))
+  over-most = each-in (lines R) _ (λ j lo hi. signal-most F R j (lineWord F R j operationPlace) (line-fits F R accepted j lo hi))

@@ -5,7 +5,7 @@ use mathlib.Core.List.{List}
 use mathlib.Core.Bool.{and-true}
 use lib.ListN.{length}
 use lib.Dec.{T, leb}
-use Rattle.sheets.specs.Format.{variablesMost, chainedMost, ruleHeader, lineWords}
+use Rattle.sheets.specs.Format.{variablesMost, chainedMost, ruleHeader, lineWords, operationPlace}
 use Rattle.sheets.specs.Operations.{Operands, oneSignal, linesAbove, automatonWithLines, noOperands, operation}
 use Rattle.sheets.specs.Words.{within, each, allOf}
 use Rattle.sheets.specs.Rules.{most, fits, lent, lifted, automata, states, lines, variables, initial, statesOf, transitionsOf, transitionsFit, line, lineOf, lineWord, operandsFit, lineFits, pathFits, ruleRefusal, overSignals, q7, q8, q9, q10, q11, automatonFits, q12, q13, q14, q15}
@@ -39,7 +39,7 @@ module _ (R : List ℕ) where
 
   pub fifteen-same : q15 lent R ≡ q15 (lifted lineWords) R
   unfolding q15 lineFits lifted
-  fifteen-same = ap (each (lines R)) (fun-ext (λ j. operands-same j (operation (lineWord lent R j 0) .operands)))
+  fifteen-same = ap (each (lines R)) (fun-ext (λ j. operands-same j (operation (lineWord lent R j operationPlace) .operands)))
 
   pub lifts : ruleRefusal lent R ≡ 0 → ruleRefusal (lifted lineWords) R ≡ 0
   unfolding q8 q10 q11 q13 q14 lifted

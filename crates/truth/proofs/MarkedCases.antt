@@ -2,7 +2,7 @@
 -- what labelling answers.
 use mathlib.Core.Path.{_≡_, refl, sym, ap, subst, _∙_}
 use mathlib.Core.Logic.{_↔_}
-use Prim.Native.Nat.{ℕ, zero, suc, _+_, _-_, _*_, _≤_, _<_}
+use Prim.Native.Nat.{ℕ, zero, suc, _-_, _*_, _≤_, _<_}
 use native.Mathlib.Nat.{add-zero, div-eq-of-lt-le}
 use native.Mathlib.Numerals.{add-one}
 use native.Mathlib.Omega.{arith}
@@ -14,13 +14,14 @@ use Rattle.sheets.specs.Words.{word, bit, each, allOf, anyOf, member, indicator
 use Rattle.sheets.specs.Records.{recordWord}
 use Rattle.sheets.specs.Questions.{none, firstNo}
 use Rattle.sheets.specs.Machine.{nodes, kripke, machineRefusal}
-use Rattle.sheets.specs.Rules.{fits, lent, lines, lineWord, accepting, leads, keep, passing, reached, walks, unmixed, distinct, transitionsFit, automatonFits, total, automatonTotal, unused, refersAbove, pathFits, lineFits, recordQuestions, automataQuestions, ruleQuestions, ruleRefusal, overSignals, q7, q8, q9, q10, q11, q12, q13, q14, q15, automaton, lineOf, line}
+use Rattle.sheets.specs.Rules.{fits, lent, lines, accepting, leads, keep, passing, reached, walks, unmixed, distinct, transitionsFit, automatonFits, total, automatonTotal, unused, refersAbove, pathFits, lineFits, recordQuestions, automataQuestions, ruleQuestions, ruleRefusal, overSignals, q7, q8, q9, q10, q11, q12, q13, q14, q15, automaton, lineOf, line}
 use Rattle.sheets.specs.Worked.{M3}
 use Rattle.sheets.proofs.AcceptedMachine.{firstNext, first-edge, edge-stays, nodes-sized, start-node}
 use Rattle.sheets.proofs.Counting.{number}
 use Rattle.sheets.proofs.WorkedSheets.{machine-cases}
 use Rattle.truth.specs.Truth.{Valuation, SomePath, Means, TrueWithin, True, TrueAt, Keeps}
 use Rattle.truth.specs.Labelling.{percent}
+use Rattle.truth.specs.inner.Product.{argument}
 use Rattle.truth.specs.Worked.{EvenSheet, OneState, Labels}
 use Rattle.truth.proofs.labelling.StartRows.{some-start}
 use Rattle.truth.proofs.labelling.LabelCounts.{number-same}
@@ -99,7 +100,7 @@ module _ (M : List ℕ) (accepted : machineRefusal M ≡ 0) where
 
   -- the automaton never leaves its one state
   module _ (s : ℕ) (p : SomePath (kripke M) (automaton (OneState 0) 1) (TrueWithin (kripke M) (automaton (OneState 0)) (line lent (OneState 0)) 0)
-      (λ i. lineWord lent (OneState 0) 1 (2 + i)) (accepting (OneState 0)) s) where
+      (argument (OneState 0) 1) (accepting (OneState 0)) s) where
     stays-one : (i : ℕ) → p .state i ≡ 1
     unfolding automaton recordWord chain anyOf
     stays-one zero = p .begins
@@ -164,7 +165,7 @@ case-e-true = record {
     moves (suc zero) = tt
     moves (suc (suc i)) = moves i
 
-    values : (i : ℕ) → Valuation (TrueWithin (kripke M3) (automaton EvenSheet) (line lent EvenSheet) 1) 1 (λ k. lineWord lent EvenSheet 2 (2 + k)) (turn i) (2 - turn i)
+    values : (i : ℕ) → Valuation (TrueWithin (kripke M3) (automaton EvenSheet) (line lent EvenSheet) 1) 1 (argument EvenSheet 2) (turn i) (2 - turn i)
     values zero = (omega arith, elim [ zero ↦ λ l. (λ t. tt, λ t. tt) | suc k ↦ λ l. absurd (omega arith) ])
     values (suc zero) = (omega arith, elim [ zero ↦ λ l. (λ t. absurd t, λ t. absurd t) | suc k ↦ λ l. absurd (omega arith) ])
     values (suc (suc i)) = values i
@@ -181,12 +182,12 @@ case-e-true = record {
 
 -- from node 2 the automaton is in state 3, which does not accept, after one step and for ever
 module _ (p : SomePath (kripke M3) (automaton EvenSheet 1) (TrueWithin (kripke M3) (automaton EvenSheet) (line lent EvenSheet) 1)
-    (λ k. lineWord lent EvenSheet 2 (2 + k)) (accepting EvenSheet) 2) where
+    (argument EvenSheet 2) (accepting EvenSheet) 2) where
   -- signal 1 is not set at node 2, so the first valuation is 0
   first-valuation : p .valuation 0 ≡ 0
   unfolding Valuation TrueWithin Means line lineOf automaton recordWord bit kripke
   first-valuation =
-      let v = subst (λ (s : ℕ). Valuation (TrueWithin (kripke M3) (automaton EvenSheet) (line lent EvenSheet) 1) 1 (λ k. lineWord lent EvenSheet 2 (2 + k)) s (p .valuation 0)) (p .starts) (p .values 0) in
+      let v = subst (λ (s : ℕ). Valuation (TrueWithin (kripke M3) (automaton EvenSheet) (line lent EvenSheet) 1) 1 (argument EvenSheet 2) s (p .valuation 0)) (p .starts) (p .values 0) in
       only-zero (p .valuation 0) (v .0) (v .1 0 (omega arith) .0)
     where
       only-zero : (w : ℕ) → w < 2 → (T (bit w 0) → ⊥) → w ≡ 0

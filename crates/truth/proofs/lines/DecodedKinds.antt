@@ -5,7 +5,7 @@ use native.Mathlib.Omega.{arith}
 use mathlib.Core.List.{List}
 use mathlib.Core.Bool.{Bool, true, false}
 use lib.Dec.{T}
-use Rattle.sheets.specs.Format.{variablesMost}
+use Rattle.sheets.specs.Format.{variablesMost, signalsMost, operationPlace, operandPlace}
 use Rattle.sheets.specs.Structures as Structures
 use Rattle.sheets.specs.Rules.{lent, lines, lineWord, lineOf, line, lineFits, automata, automaton, ruleRefusal}
 use Rattle.sheets.specs.inner.Lines.{pathLine, decodedAs, decoded}
@@ -16,7 +16,6 @@ use Rattle.sheets.specs.declared.lines.Decoded.the-variants.{Formed, Malformed}
 use Rattle.sheets.proofs.AcceptedRule.{line-fits}
 use Rattle.sheets.proofs.DecodedLines.{malformed-fails}
 use Rattle.sheets.proofs.FormedLines as FormedLines
-use Rattle.sheets.specs.Format.{signalsMost}
 use Rattle.truth.specs.inner.Product.{argument, argumentOf}
 
 -- the lines that a path line's words name
@@ -51,7 +50,7 @@ module _ (R : List ℕ) (j : ℕ) where
 
   pub line-meant : (l : Line) → decoded R j ≡ Formed l → line lent R j ≡ meant l
   unfolding decoded line
-  line-meant l e = meant-by l (lineWord lent R j 0) (lineFits lent R j (lineWord lent R j 0)) e
+  line-meant l e = meant-by l (lineWord lent R j operationPlace) (lineFits lent R j (lineWord lent R j operationPlace)) e
 
   -- a decoded path line carries the lines of its variables
   abbrev pub Carries : Line → Type 0
@@ -70,13 +69,13 @@ module _ (R : List ℕ) (j : ℕ) where
   carries-by l zero true e = same-carried e tt
   carries-by l (suc zero) true e = same-carried e tt
   carries-by l (suc (suc zero)) true e = same-carried e tt
-  carries-by l (suc (suc (suc zero))) true e = same-carried e (carried (lineWord lent R j 1) (argument R j))
-  carries-by l (suc (suc (suc (suc zero)))) true e = same-carried e (carried (lineWord lent R j 1) (argument R j))
+  carries-by l (suc (suc (suc zero))) true e = same-carried e (carried (lineWord lent R j operandPlace) (argument R j))
+  carries-by l (suc (suc (suc (suc zero)))) true e = same-carried e (carried (lineWord lent R j operandPlace) (argument R j))
   carries-by l (suc (suc (suc (suc (suc n))))) true e = let z : _≡_ {A = ℕ} 0 1 = cc in absurd (omega arith)
 
   pub line-carries : (l : Line) → decoded R j ≡ Formed l → Carries l
   unfolding decoded line
-  line-carries l e = carries-by l (lineWord lent R j 0) (lineFits lent R j (lineWord lent R j 0)) e
+  line-carries l e = carries-by l (lineWord lent R j operationPlace) (lineFits lent R j (lineWord lent R j operationPlace)) e
 
   -- as the code has it: the answer of `decode`, then the line in it
   pub told : {d : Decoded} {l k : Line} → d ≡ decoded R j → d ≡ Formed l → l ≡ k → decoded R j ≡ Formed k

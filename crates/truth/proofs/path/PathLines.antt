@@ -8,6 +8,8 @@ use native.Mathlib.Decide.{le-ind}
 use mathlib.Core.List.{List}
 use mathlib.Core.Bool.{Bool, true, false}
 use lib.Dec.{T, eqb}
+use Rattle.sheets.specs.Format.{signalsMost, operationPlace, operandPlace}
+use Rattle.sheets.specs.Operations.{somePathOperation, somePathNotOperation}
 use Rattle.sheets.specs.Words.{within}
 use Rattle.sheets.specs.Structures.{Kripke}
 use Rattle.sheets.specs.Machine.{nodes, kripke, machineRefusal}
@@ -15,7 +17,6 @@ use Rattle.sheets.specs.Rules.{lent, lines, automata, automaton, line, lineOf, 
 use Rattle.sheets.proofs.Search.{within-at, le-or-gt}
 use Rattle.sheets.proofs.AcceptedMachine.{edge-stays}
 use Rattle.sheets.proofs.FormedLines.{Formed, formed, over-most}
-use Rattle.sheets.specs.Format.{signalsMost}
 use Rattle.truth.specs.Truth.{Truths, SomePath, Means, TrueAt}
 use Rattle.truth.specs.Labelling.{rowBit, rowTruths, RowsTo}
 use Rattle.truth.specs.Lists.{Lasso}
@@ -30,17 +31,17 @@ use Rattle.truth.proofs.path.SameLists.{lasso-truths}
 
 -- the operation of a path line, with accepting and non-accepting states exchanged or not
 abbrev pub operation : Bool → ℕ
-operation false = 3
-operation true = 4
+operation false = somePathOperation
+operation true = somePathNotOperation
 
-pub operated : (op : ℕ) → T (within 3 4 op) → op ≡ operation (eqb op 4)
+pub operated : (op : ℕ) → T (within somePathOperation somePathNotOperation op) → op ≡ operation (eqb op somePathNotOperation)
 operated op t =
-    let r = within-at 3 4 op t in
-    ⊎-elim (λ l. let e : op ≡ 3 = omega arith in rw e refl) (λ l. let e : op ≡ 4 = omega arith in rw e refl) (le-or-gt op 3)
+    let r = within-at somePathOperation somePathNotOperation op t in
+    ⊎-elim (λ l. let e : op ≡ somePathOperation = omega arith in rw e refl) (λ l. let e : op ≡ somePathNotOperation = omega arith in rw e refl) (le-or-gt op somePathOperation)
 
 module _ (R : List ℕ) (j : ℕ) where
   abbrev pub auto : ℕ
-  auto = lineWord lent R j 1
+  auto = lineWord lent R j operandPlace
 
   means-path : (exchanged : Bool) (K : Kripke) (above : Truths) (s : ℕ)
       → Means K (automaton R) above (lineOf lent R j (operation exchanged)) s ↔ SomePath K (automaton R auto) above (argument R j) (good exchanged (automaton R auto)) s
@@ -64,7 +65,7 @@ module _ (R : List ℕ) (j : ℕ) where
 -- ---- a path line of an accepted sheet, and the rows of the lines above it
 
 module _ (M R : List ℕ) (machine : machineRefusal M ≡ 0) (rules : ruleRefusal lent R ≡ 0) (j : ℕ) (lo : 1 ≤ j) (hi : j ≤ lines R)
-    (exchanged : Bool) (kind : lineWord lent R j 0 ≡ operation exchanged) where
+    (exchanged : Bool) (kind : lineWord lent R j operationPlace ≡ operation exchanged) where
   line-is : line lent R j ≡ lineOf lent R j (operation exchanged)
   unfolding line
   line-is = ap (lineOf lent R j) kind

@@ -8,7 +8,8 @@ use mathlib.Core.List.{List}
 use mathlib.Core.Bool.{Bool, _&&_}
 use lib.ListN.{length}
 use lib.Dec.{T, leb, leb→le, eqb}
-use Rattle.sheets.specs.Format.{variablesMost, linesMost}
+use Rattle.sheets.specs.Format.{variablesMost, linesMost, operationPlace, operandPlace}
+use Rattle.sheets.specs.Operations.{somePathOperation, somePathNotOperation}
 use Rattle.sheets.specs.Words.{within, indicator}
 use Rattle.sheets.specs.Questions.{none as noRefusal, firstNo}
 use Rattle.sheets.specs.Machine.{nodes, machineRefusal}
@@ -73,7 +74,7 @@ module _ (M R : List ℕ) (j s room q : ℕ) (e : q ≡ firstNo (pathQuestions M
 
     -- line k is the asked one
     module _ (k : ℕ) (ek : k ≡ asked R j) where
-      line-accepted : T (within 1 (lines R) k && within 1 (nodes M) s && within 3 4 (lineWord lent R k 0))
+      line-accepted : T (within 1 (lines R) k && within 1 (nodes M) s && within somePathOperation somePathNotOperation (lineWord lent R k operationPlace))
       unfolding q18
       line-accepted = rw ek (accepted .1 .0)
 
@@ -83,33 +84,33 @@ module _ (M R : List ℕ) (j s room q : ℕ) (e : q ≡ firstNo (pathQuestions M
       node-in : (1 ≤ s) × (s ≤ nodes M)
       node-in = within-at 1 (nodes M) s (let t = line-accepted in search (and-left, and-right, t))
 
-      path-line : T (within 3 4 (lineWord lent R k 0))
+      path-line : T (within somePathOperation somePathNotOperation (lineWord lent R k operationPlace))
       path-line = let t = line-accepted in search (and-right, t)
 
-      room-enough : nodes M * stateCount R (lineWord lent R k 1) ≤ room
+      room-enough : nodes M * stateCount R (lineWord lent R k operandPlace) ≤ room
       unfolding q19
       room-enough = rw ek (leb→le _ room (accepted .1 .1 .0))
 
       -- the rows are those of the lines above it, p is the line that it is, and op its operation
-      module _ (before rows : List ℕ) (written : RowsTo M R (k - 1) before rows) (p : PathLine) (op : ℕ) (ep : p ≡ pathLine (lineWord lent R k 1) (argument R k))
-          (eo : op ≡ lineWord lent R k 0) (exchanged : Bool) (ee : eqb op 4 ≡ exchanged) where
-        kind : lineWord lent R k 0 ≡ operation exchanged
-        kind = rw (← ee, eo) (operated (lineWord lent R k 0) path-line)
+      module _ (before rows : List ℕ) (written : RowsTo M R (k - 1) before rows) (p : PathLine) (op : ℕ) (ep : p ≡ pathLine (lineWord lent R k operandPlace) (argument R k))
+          (eo : op ≡ lineWord lent R k operationPlace) (exchanged : Bool) (ee : eqb op somePathNotOperation ≡ exchanged) where
+        kind : lineWord lent R k operationPlace ≡ operation exchanged
+        kind = rw (← ee, eo) (operated (lineWord lent R k operationPlace) path-line)
 
-        ex : p .automaton ≡ lineWord lent R k 1
+        ex : p .automaton ≡ lineWord lent R k operandPlace
         ex = rw ep
 
         refers : ((1 ≤ auto R k) × (auto R k ≤ automata R)) × ((i : ℕ) → i < automaton R (auto R k) .variables → (1 ≤ argument R k i) × (argument R k i < k))
         refers = path-refers M R machine-accepted rules-accepted k (line-in .0) (line-in .1) exchanged kind
 
         -- its variables are few
-        few : automaton R (lineWord lent R k 1) .variables ≤ variablesMost
+        few : automaton R (lineWord lent R k operandPlace) .variables ≤ variablesMost
         few =
-            let named = positioned-named lent R rules-accepted (lineWord lent R k 1) (refers .0 .0) (refers .0 .1) .variables in
-            omega (arith, named, few-valued R rules-accepted (lineWord lent R k 1) (refers .0 .0) (refers .0 .1))
+            let named = positioned-named lent R rules-accepted (lineWord lent R k operandPlace) (refers .0 .0) (refers .0 .1) .variables in
+            omega (arith, named, few-valued R rules-accepted (lineWord lent R k operandPlace) (refers .0 .0) (refers .0 .1))
 
-        same : (i : ℕ) → i < automaton R (lineWord lent R k 1) .variables → argumentOf p i ≡ argument R k i
-        same i l = subst (λ (q : PathLine). argumentOf q i ≡ argument R k i) (sym ep) (carried (lineWord lent R k 1) (argument R k) i (omega (arith, l, few)))
+        same : (i : ℕ) → i < automaton R (lineWord lent R k operandPlace) .variables → argumentOf p i ≡ argument R k i
+        same i l = subst (λ (q : PathLine). argumentOf q i ≡ argument R k i) (sym ep) (carried (lineWord lent R k operandPlace) (argument R k) i (omega (arith, l, few)))
 
         -- the path exists by the bits of the rows where the line is true
         line-holds : Holds M R rows (argumentOf p) (p .automaton) exchanged s ↔ TrueAt lent M R k s
@@ -121,7 +122,7 @@ module _ (M R : List ℕ) (j s room q : ℕ) (e : q ≡ firstNo (pathQuestions M
             → (machineRefusal M ≡ 0)
             × ((ruleRefusal lent R ≡ 0) × ((next back : List ℕ) → Ready M R next back → PathReady M R next back rows (argumentOf p) (p .automaton) × ((1 ≤ s) × (s ≤ nodes M))))
         show-ready size =
-            let named = positioned-named lent R rules-accepted (lineWord lent R k 1) (refers .0 .0) (refers .0 .1) in
+            let named = positioned-named lent R rules-accepted (lineWord lent R k operandPlace) (refers .0 .0) (refers .0 .1) in
             let fit = rows-fit R rules-accepted in
             let in-lines = line-in .1 in (
               machine-accepted,
@@ -133,7 +134,7 @@ module _ (M R : List ℕ) (j s room q : ℕ) (e : q ≡ firstNo (pathQuestions M
                     from = rw ex (refers .0 .0);
                     to = rw ex (refers .0 .1);
                     arguments = λ i l.
-                        let v : i < automaton R (lineWord lent R k 1) .variables = rw (named .variables) (rw ex at l) in
+                        let v : i < automaton R (lineWord lent R k operandPlace) .variables = rw (named .variables) (rw ex at l) in
                         let a = refers .1 i v in
                         let b : (1 ≤ argument R k i) × (rowWords * argument R k i ≤ length rows) = (a .0, omega (arith, a .1)) in
                         subst (λ (n : ℕ). (1 ≤ n) × (rowWords * n ≤ length rows)) (sym (same i v)) b;

@@ -9,6 +9,8 @@ use mathlib.Core.List.{List, [], _∷_}
 use mathlib.Core.Bool.{Bool, _&&_}
 use borrow.Author.Tests.{le-leb, lt-leb}
 use lib.Dec.{T, leb}
+use Rattle.sheets.specs.Format.{operationPlace, operandPlace}
+use Rattle.sheets.specs.Operations.{somePathOperation, somePathNotOperation}
 use Rattle.sheets.specs.Words.{within}
 use Rattle.sheets.specs.Questions.{Question, ask, firstNo}
 use Rattle.sheets.specs.Machine.{nodes, machineRefusal}
@@ -30,7 +32,7 @@ abbrev pub ownQuestions : List ℕ → List ℕ → ℕ → ℕ → ℕ → List
 ownQuestions M R j s room = ask 18 0 (q18 M R j s) ∷ ask 19 0 (q19 M R j room) ∷ []
 
 -- a path line of an accepted sheet names one of its automata
-path-automaton : (R : List ℕ) (j op : ℕ) → T (within 3 4 op) → T (lineFits lent R j op) → T (within 1 (automata R) (lineWord lent R j 1))
+path-automaton : (R : List ℕ) (j op : ℕ) → T (within somePathOperation somePathNotOperation op) → T (lineFits lent R j op) → T (within 1 (automata R) (lineWord lent R j operandPlace))
 unfolding lineFits pathFits
 path-automaton R j zero k f = absurd k
 path-automaton R j (suc zero) k f = absurd k
@@ -44,19 +46,19 @@ module _ (M R : List ℕ) (j s : ℕ) (machine : machineRefusal M ≡ 0) (rules 
   k = asked R j
 
   abbrev x : ℕ
-  x = lineWord lent R k 1
+  x = lineWord lent R k operandPlace
 
-  parts : T (within 1 (lines R) k && within 1 (nodes M) s && within 3 4 (lineWord lent R k 0))
+  parts : T (within 1 (lines R) k && within 1 (nodes M) s && within somePathOperation somePathNotOperation (lineWord lent R k operationPlace))
   unfolding q18
   parts = line-ok
 
   pub line-within : (1 ≤ k) × (k ≤ lines R)
-  line-within = within-at 1 (lines R) k (and-left (within 1 (lines R) k) (within 1 (nodes M) s) (and-left (within 1 (lines R) k && within 1 (nodes M) s) (within 3 4 (lineWord lent R k 0)) parts))
+  line-within = within-at 1 (lines R) k (and-left (within 1 (lines R) k) (within 1 (nodes M) s) (and-left (within 1 (lines R) k && within 1 (nodes M) s) (within somePathOperation somePathNotOperation (lineWord lent R k operationPlace)) parts))
 
   pub automaton-within : (1 ≤ x) × (x ≤ automata R)
   automaton-within =
       within-at 1 (automata R) x
-      (path-automaton R k (lineWord lent R k 0) (and-right (within 1 (lines R) k && within 1 (nodes M) s) (within 3 4 (lineWord lent R k 0)) parts)
+      (path-automaton R k (lineWord lent R k operationPlace) (and-right (within 1 (lines R) k && within 1 (nodes M) s) (within somePathOperation somePathNotOperation (lineWord lent R k operationPlace)) parts)
       (line-fits lent R rules k (line-within .0) (line-within .1)))
 
   pub pairs-most : nodes M * stateCount R x ≤ pairsMost
@@ -81,7 +83,7 @@ module _ (M R : List ℕ) (j s : ℕ) where
   room-same room sheets own =
       let both = both-accepted M R sheets in
       let most = pairs-most M R j s (both .machine) (both .rules) (all-yes lineOn own .0) in
-      ap (λ (b : Bool). firstNo (ask 19 0 b ∷ [])) (least-room (nodes M * stateCount R (lineWord lent R (asked R j) 1)) room most)
+      ap (λ (b : Bool). firstNo (ask 19 0 b ∷ [])) (least-room (nodes M * stateCount R (lineWord lent R (asked R j) operandPlace)) room most)
 
   -- more room than that changes no answer
   pub room-most : (room : ℕ) → firstNo (pathQuestions M R j s (min room pairsMost)) ≡ firstNo (pathQuestions M R j s room)

@@ -3,6 +3,7 @@ use mathlib.Core.Path.{refl, sym, _∙_}
 use Prim.Native.Nat.{ℕ, _-_}
 use mathlib.Core.List.{List, []}
 use mathlib.Core.Bool.{Bool}
+use Rattle.sheets.specs.Format.{operationPlace}
 use Rattle.sheets.specs.Rules.{lent, lines, lineWord, lineFits, q15}
 use Rattle.sheets.proofs.Questions.{asked-none, asked-yes, asked-no}
 use Rattle.sheets.proofs.DecodedLines.{formed-fits, malformed-fails}
@@ -12,7 +13,7 @@ use Rattle.sheets.proofs.lines.lines_refusal.Statement.{statement}
 use Rattle.sheets.proofs.lines.lines_refusal.Tie as tie
 
 abbrev test : List ℕ → ℕ → Bool
-test r j = lineFits lent r j (lineWord lent r j 0)
+test r j = lineFits lent r j (lineWord lent r j operationPlace)
 
 abbrev Inv-loop : tie.InvT-loop
 Inv-loop r l j₀ j = Tested (test r) (lines r) l j

@@ -4,6 +4,8 @@ use Prim.Native.Nat.{ℕ}
 use mathlib.Core.List.{List}
 use mathlib.Core.Bool.{Bool, true, false, not}
 use borrow.Author.Tests.{not-true, not-false}
+use Rattle.sheets.specs.Format.{operationPlace}
+use Rattle.sheets.specs.Operations.{somePathOperation, somePathNotOperation}
 use Rattle.sheets.specs.Words.{within}
 use Rattle.sheets.specs.Machine.{nodes}
 use Rattle.sheets.specs.Rules.{lent, lines, lineWord}
@@ -22,7 +24,7 @@ module _ (M R : List ℕ) (j s k l n w : ℕ) (a b d : Bool) (ek : k ≡ asked R
     unfolding q18
     no-node y = rw (← ek, ← el, ← ea, not-false a x, ← en, ← eb, not-true b y) refl
 
-    last-test : not b ≡ false → w ≡ lineWord lent R k 0 → d ≡ within 3 4 w → d ≡ q18 M R j s
+    last-test : not b ≡ false → w ≡ lineWord lent R k operationPlace → d ≡ within somePathOperation somePathNotOperation w → d ≡ q18 M R j s
     unfolding q18
     last-test y ew ed = rw (← ek, ← el, ← ea, not-false a x, ← en, ← eb, not-false b y, ← ew, ← ed) refl
 

@@ -5,6 +5,7 @@ use native.Mathlib.Omega.{arith}
 use native.Mathlib.Nat.{mul-le-mul-left}
 use mathlib.Core.List.{List}
 use lib.Dec.{leb}
+use Rattle.sheets.specs.Format.{operandPlace}
 use Rattle.sheets.specs.Machine.{nodes}
 use Rattle.sheets.specs.Rules.{lent, lineWord}
 use Rattle.sheets.specs.declared.lines.PathLine.{PathLine}
@@ -14,7 +15,7 @@ use borrow.Author.Needs.{needs}
 use Rattle.truth.proofs.path.q19.Statement.{statement}
 use Rattle.truth.proofs.path.q19.Tie as tie
 
-room-test : (M R : List ℕ) (j room k x n t : ℕ) → k ≡ asked R j → x ≡ lineWord lent R k 1 → n ≡ nodes M → t ≡ stateCount R x
+room-test : (M R : List ℕ) (j room k x n t : ℕ) → k ≡ asked R j → x ≡ lineWord lent R k operandPlace → n ≡ nodes M → t ≡ stateCount R x
     → leb (n * t) room ≡ q19 M R j room
 unfolding q19
 room-test M R j room k x n t ek ex en et = rw (← ek, ← ex, ← en, ← et) refl
