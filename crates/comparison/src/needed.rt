@@ -50,9 +50,9 @@ fn line_at(words: &[u16; sizes::WRITTEN_SPACE], i: u16) -> Line
     ensures { λ r. ⌜ ((ls : List Entry) → HoldsLines (now (words .entry)) ls → i ≤ length ls → entry ls i ≡ entryOf r) ⌝ }
 {
     let k = sizes::LINE_WORDS * (i as usize - 1);
-    let op = words[k];
-    let x = words[k + 1];
-    let y = words[k + 2];
+    let op = words[k + header::OPERATION];
+    let x = words[k + header::OPERAND];
+    let y = words[k + header::SECOND_OPERAND];
     match op {
         header::SIGNAL => Line::Signal(x),
         header::NEGATION => Line::Not(x),

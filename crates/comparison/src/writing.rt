@@ -3,29 +3,29 @@ ghost use mathlib.Core.Path.{_≡_};
 ghost use mathlib.Core.List.{[], _∷_, _++_};
 ghost use Prim.Native.Nat.{_+_, _*_, _<_, _≤_};
 ghost use lib.ListN.{length, take, set};
-ghost use Rattle.truth.specs.Passed.{lineWords};
+ghost use Rattle.truth.specs.Passed.{lineWords, operationPlace, operandPlace, lineRecord};
 ghost use Rattle.comparison.specs.inner.Sizes.{writtenSpace, writtenMost};
 ghost use Rattle.comparison.specs.inner.Lines.{sig, neg, alt, next, signalLines, firstLines, split, HoldsLines, Adds};
 use crate::sizes;
 use truth::header;
 
-// Three words and three zeros, from a place on.
+// A line record from a place on: its operation, two operands, and zeros for what is unused.
 fn put_words(out: &mut [u16; sizes::WRITTEN_SPACE], k: usize, op: u16, x: u16, y: u16)
     requires { ⌜ k + lineWords ≤ writtenSpace ⌝ }
-    ensures { λ r. ⌜ now (out .exit) ≡ set (set (set (set (set (set (now (out .entry)) k op) (k + 1) x) (k + 2) y) (k + 3) 0) (k + 4) 0) (k + 5) 0 ⌝ }
+    ensures { λ r. ⌜ now (out .exit) ≡ set (set (set (set (set (set (now (out .entry)) (k + operationPlace) op) (k + operandPlace) x) (k + (operandPlace + 1)) y) (k + (operandPlace + 2)) 0) (k + (operandPlace + 3)) 0) (k + (operandPlace + 4)) 0 ⌝ }
 {
-    out[k] = op;
-    out[k + 1] = x;
-    out[k + 2] = y;
-    out[k + 3] = 0;
-    out[k + 4] = 0;
-    out[k + 5] = 0;
+    out[k + header::OPERATION] = op;
+    out[k + header::OPERAND] = x;
+    out[k + header::SECOND_OPERAND] = y;
+    out[k + header::THIRD_OPERAND] = 0;
+    out[k + header::FOURTH_OPERAND] = 0;
+    out[k + header::FIFTH_OPERAND] = 0;
 }
 
 // The words of line n + 1, of which the last three are always 0.
 fn write_words(out: &mut [u16; sizes::WRITTEN_SPACE], n: u16, op: u16, x: u16, y: u16)
     requires { ⌜ (n < writtenMost) × (length (now out) ≡ writtenSpace) ⌝ }
-    ensures { λ r. ⌜ (length (now (out .exit)) ≡ writtenSpace) × (take (lineWords * n + lineWords) (now (out .exit)) ≡ take (lineWords * n) (now (out .entry)) ++ op ∷ x ∷ y ∷ 0 ∷ 0 ∷ 0 ∷ []) ⌝ }
+    ensures { λ r. ⌜ (length (now (out .exit)) ≡ writtenSpace) × (take (lineWords * n + lineWords) (now (out .exit)) ≡ take (lineWords * n) (now (out .entry)) ++ lineRecord op x y) ⌝ }
 {
     let k = sizes::LINE_WORDS * (n as usize);
     put_words(out, k, op, x, y)

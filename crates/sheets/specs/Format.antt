@@ -1,6 +1,7 @@
 -- The format of both kinds of sheet, in numbers: limits, the words of each record and the places of its parts, where the records of a kind
 -- begin, how long a sheet is, and the longest sheets. Each stands here once, and all other definitions cite it.
 use Prim.Native.Nat.{ℕ, _+_, _*_}
+use mathlib.Core.List.{List, [], _∷_}
 use Rattle.sheets.specs.declared.format.NodeForm.{NodeForm}
 
 -- ---- limits: nodes, signals and edges of a machine
@@ -112,6 +113,10 @@ operationPlace = 0
 
 abbrev pub operandPlace : ℕ
 operandPlace = 1
+
+-- the words of a line record in their order: its operation, two operands, and zeros for those that are unused
+abbrev pub lineRecord : ℕ → ℕ → ℕ → List ℕ
+lineRecord op x y = op ∷ x ∷ y ∷ 0 ∷ 0 ∷ 0 ∷ []
 
 -- ---- where the records of a kind begin, and how long a sheet is: n nodes and e edges of a machine
 

@@ -24,13 +24,13 @@ pub const SOME_PATH: u16 = 3;
 pub const SOME_PATH_NOT: u16 = 4;
 
 // The places of the operands after the first.
-const SECOND_OPERAND: u16 = format::OPERAND + 1;
+pub const SECOND_OPERAND: u16 = format::OPERAND + 1;
 
-const THIRD_OPERAND: u16 = format::OPERAND + 2;
+pub const THIRD_OPERAND: u16 = format::OPERAND + 2;
 
-const FOURTH_OPERAND: u16 = format::OPERAND + 3;
+pub const FOURTH_OPERAND: u16 = format::OPERAND + 3;
 
-const FIFTH_OPERAND: u16 = format::OPERAND + 4;
+pub const FIFTH_OPERAND: u16 = format::OPERAND + 4;
 
 // An automaton with the lines of the variables that it may have; what stands past those that it has is 0.
 pub struct PathLine {

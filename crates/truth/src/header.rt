@@ -13,6 +13,19 @@ pub const LINE_WORDS: usize = format::LINE_WORDS as usize;
 
 pub const NEXT_HEAD: usize = format::NEXT_HEAD;
 
+// The places of a line's operation and of its operands.
+pub const OPERATION: usize = format::OPERATION as usize;
+
+pub const OPERAND: usize = format::OPERAND as usize;
+
+pub const SECOND_OPERAND: usize = lines::SECOND_OPERAND as usize;
+
+pub const THIRD_OPERAND: usize = lines::THIRD_OPERAND as usize;
+
+pub const FOURTH_OPERAND: usize = lines::FOURTH_OPERAND as usize;
+
+pub const FIFTH_OPERAND: usize = lines::FIFTH_OPERAND as usize;
+
 // The operations of a written rule's lines.
 pub const SIGNAL: u16 = lines::SIGNAL;
 

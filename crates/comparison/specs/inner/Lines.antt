@@ -3,7 +3,7 @@ use mathlib.Core.Path.{_≡_}
 use Prim.Native.Nat.{ℕ, zero, suc, _+_, _-_, _*_, _≤_, _<_}
 use mathlib.Core.List.{List, [], _∷_, _++_}
 use lib.ListN.{length, getD, take}
-use Rattle.truth.specs.Passed.{signalsMost, lineWords, signalOperation, negationOperation, eitherOperation, somePathOperation}
+use Rattle.truth.specs.Passed.{signalsMost, lineWords, lineRecord, signalOperation, negationOperation, eitherOperation, somePathOperation}
 use Rattle.comparison.specs.inner.Sizes.{writtenSpace}
 use Rattle.comparison.specs.Comparison.{nextWords, ruleHead}
 
@@ -16,10 +16,10 @@ pub data Entry : Type 0 where
 
 -- the words of a line record
 unfoldable pub words : Entry → List ℕ
-words (sig i) = signalOperation ∷ i ∷ 0 ∷ 0 ∷ 0 ∷ 0 ∷ []
-words (neg j) = negationOperation ∷ j ∷ 0 ∷ 0 ∷ 0 ∷ 0 ∷ []
-words (alt i j) = eitherOperation ∷ i ∷ j ∷ 0 ∷ 0 ∷ 0 ∷ []
-words (next j) = somePathOperation ∷ 1 ∷ j ∷ 0 ∷ 0 ∷ 0 ∷ []
+words (sig i) = lineRecord signalOperation i 0
+words (neg j) = lineRecord negationOperation j 0
+words (alt i j) = lineRecord eitherOperation i j
+words (next j) = lineRecord somePathOperation 1 j
 
 unfoldable pub writtenWords : List Entry → List ℕ
 unfolding words

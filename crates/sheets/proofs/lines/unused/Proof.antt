@@ -3,6 +3,7 @@ use mathlib.Core.Path.{refl, sym, _∙_}
 use Prim.Native.Nat.{_+_, _-_}
 use lib.Dec.{eqb}
 use borrow.Author.Tests.{le-leb, lt-leb, eq-eqb, ne-eqb}
+use Rattle.sheets.specs.Format.{lineWords}
 use Rattle.sheets.specs.Rules.{lent, lineWord, unused}
 use Rattle.sheets.proofs.EachLoops.{Tested, each-starts, each-goes, each-stops, each-ends}
 use borrow.Author.Needs.{needs}
@@ -10,14 +11,14 @@ use Rattle.sheets.proofs.lines.unused.Statement.{statement}
 use Rattle.sheets.proofs.lines.unused.Tie as tie
 
 abbrev Inv-loop : tie.InvT-loop
-Inv-loop r from j c n i₀ i = Tested (λ k. eqb (lineWord lent r j (c + k - 1)) 0) (6 - c) n i
+Inv-loop r from j c n i₀ i = Tested (λ k. eqb (lineWord lent r j (c + k - 1)) 0) (lineWords - c) n i
 
 abbrev μ-loop : tie.MeasureT-loop
 μ-loop r from j c n i₀ i = n - i
 
 returns : tie.Need-returns Inv-loop μ-loop
 unfolding unused
-returns c = simp (lt-leb _ 6 (c .if1 .taken))
+returns c = simp (lt-leb _ lineWords (c .if1 .taken))
 
 loop-holds : tie.Need-loop-holds Inv-loop μ-loop
 loop-holds c = each-starts refl
@@ -39,7 +40,7 @@ unfolding unused
 returns-2 c =
     let else1 : tie.Else1 Inv-loop μ-loop = search in let turn : tie.In-loop Inv-loop μ-loop = search in
     let f = ne-eqb _ 0 (λ e. c .if2 .taken (c .before .line-word .ensures ∙ e)) in
-    simp (le-leb _ 6 (else1 .if1 .left)) (each-stops (turn .before .loop .inv) (turn .loop-test .taken) f)
+    simp (le-leb _ lineWords (else1 .if1 .left)) (each-stops (turn .before .loop .inv) (turn .loop-test .taken) f)
 
 loop-less : tie.Need-loop-less Inv-loop μ-loop
 loop-less c = search needs
@@ -53,7 +54,7 @@ returns-3 : tie.Need-returns-3 Inv-loop μ-loop
 unfolding unused
 returns-3 c =
     let else1 : tie.Else1 Inv-loop μ-loop = search in
-    simp (le-leb _ 6 (else1 .if1 .left)) (each-ends (c .before .loop .inv) (c .loop-test .left))
+    simp (le-leb _ lineWords (else1 .if1 .left)) (each-ends (c .before .loop .inv) (c .loop-test .left))
 
 pub unused-spec : {M : Type 1} → statement M
 unused-spec =
