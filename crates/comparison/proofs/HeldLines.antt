@@ -2,11 +2,12 @@
 use mathlib.Core.Path.{_≡_, refl, ap, _∙_}
 use Prim.Native.Nat.{ℕ, _+_, _*_, _≤_, _<_}
 use native.Mathlib.Numerals.{add-one}
+use native.Mathlib.Nat.{add-zero}
 use native.Mathlib.Omega.{arith}
 use mathlib.Core.List.{List, [], _∷_, _++_, append-assoc}
 use lib.ListN.{length, set, take, length-append, length-set}
 use lib.Seq.{take-suc-set}
-use Rattle.truth.specs.Passed.{lineWords}
+use Rattle.truth.specs.Passed.{lineWords, operationPlace, operandPlace, lineRecord}
 use Rattle.comparison.specs.inner.Sizes.{writtenSpace}
 use Rattle.comparison.specs.inner.Lines.{Entry, sig, neg, alt, words, writtenWords, signalLines, everywhere, firstLines, split, HoldsLines, Adds}
 use Rattle.comparison.proofs.Lines.{words-below}
@@ -18,7 +19,7 @@ use Rattle.comparison.proofs.FirstLines.{signal-length}
 stored-next : (l front : List ℕ) (k j v : ℕ) → take k l ≡ front → j ≡ k + 1 → k < length l → take j (set l k v) ≡ front ++ v ∷ []
 stored-next l front k j v e f h = rw (f, add-one, ← e) (take-suc-set l k v h)
 
-pub six-stored : (l : List ℕ) (k u v w x y z : ℕ) → k + lineWords ≤ length l
+six-stored : (l : List ℕ) (k u v w x y z : ℕ) → k + lineWords ≤ length l
     → take (k + lineWords) (set (set (set (set (set (set l k u) (k + 1) v) (k + 2) w) (k + 3) x) (k + 4) y) (k + 5) z) ≡ take k l ++ u ∷ v ∷ w ∷ x ∷ y ∷ z ∷ []
 six-stored l k u v w x y z h =
     let l₁ = set l k u in
@@ -38,6 +39,12 @@ six-stored l k u v w x y z h =
     let e₅ = stored-next l₄ ((((take k l ++ u ∷ []) ++ v ∷ []) ++ w ∷ []) ++ x ∷ []) (k + 4) (k + 5) y e₄ (omega arith) (omega arith) in
     stored-next l₅ (((((take k l ++ u ∷ []) ++ v ∷ []) ++ w ∷ []) ++ x ∷ []) ++ y ∷ []) (k + 5) (k + lineWords) z e₅ (omega arith) (omega arith)
     ∙ simp append-assoc
+
+-- a line record is stored
+pub record-stored : (l : List ℕ) (k op x y : ℕ) → k + lineWords ≤ length l
+    → take (k + lineWords) (set (set (set (set (set (set l (k + operationPlace) op) (k + operandPlace) x) (k + (operandPlace + 1)) y) (k + (operandPlace + 2)) 0) (k + (operandPlace + 3)) 0) (k + (operandPlace + 4)) 0)
+    ≡ take k l ++ lineRecord op x y
+record-stored l k op x y h = rw (add-zero k) (six-stored l k op x y 0 0 0 h)
 
 -- ---- lines
 

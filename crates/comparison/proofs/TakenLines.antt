@@ -48,17 +48,17 @@ module _ (w : List ℕ) (i k : ℕ) (lo : 1 ≤ i) (at : k ≡ lineWords * (i - 
       ∙ ap (λ (l : List ℕ). getD l (k + n) 0) (sym (h .stands))
       ∙ getD-take (lineWords * length ls) w (k + n) 0 b
 
-  first : getD (words (entry ls i)) operationPlace 0 ≡ getD w k 0
-  first = let e : k + operationPlace ≡ k = omega arith in word-at operationPlace (omega arith) ∙ ap (λ (j : ℕ). getD w j 0) e
+  first : getD (words (entry ls i)) operationPlace 0 ≡ getD w (k + operationPlace) 0
+  first = word-at operationPlace (omega arith)
 
-  pub taken-signal : getD w k 0 ≡ signalOperation → entry ls i ≡ sig (getD w (k + operandPlace) 0)
+  pub taken-signal : getD w (k + operationPlace) 0 ≡ signalOperation → entry ls i ≡ sig (getD w (k + operandPlace) 0)
   taken-signal e = by-signal (entry ls i) (first ∙ e) ∙ ap sig (word-at operandPlace (omega arith))
 
-  pub taken-not : getD w k 0 ≡ negationOperation → entry ls i ≡ neg (getD w (k + operandPlace) 0)
+  pub taken-not : getD w (k + operationPlace) 0 ≡ negationOperation → entry ls i ≡ neg (getD w (k + operandPlace) 0)
   taken-not e = by-negation (entry ls i) (first ∙ e) ∙ ap neg (word-at operandPlace (omega arith))
 
-  pub taken-or : getD w k 0 ≡ eitherOperation → entry ls i ≡ alt (getD w (k + operandPlace) 0) (getD w (k + (operandPlace + 1)) 0)
+  pub taken-or : getD w (k + operationPlace) 0 ≡ eitherOperation → entry ls i ≡ alt (getD w (k + operandPlace) 0) (getD w (k + (operandPlace + 1)) 0)
   taken-or e = by-either (entry ls i) (first ∙ e) ∙ ap₂ alt (word-at operandPlace (omega arith)) (word-at (operandPlace + 1) (omega arith))
 
-  pub taken-next : somePathOperation ≤ getD w k 0 → entry ls i ≡ next (getD w (k + (operandPlace + 1)) 0)
+  pub taken-next : somePathOperation ≤ getD w (k + operationPlace) 0 → entry ls i ≡ next (getD w (k + (operandPlace + 1)) 0)
   taken-next e = by-rest (entry ls i) (omega (arith, first)) ∙ ap next (word-at (operandPlace + 1) (omega arith))

@@ -12,6 +12,9 @@ sub-k c = search needs
 mul-k : tie.Need-mul-k
 mul-k c = search needs
 
+add-op : tie.Need-add-op
+add-op c = search needs
+
 mul-op : tie.Need-mul-op
 mul-op c = search needs
 
@@ -62,6 +65,7 @@ line-at-spec =
     (tie.spec
     sub-k
     mul-k
+    add-op
     mul-op
     element-copy-out-op
     add-x

@@ -4,7 +4,7 @@ use lib.ListN.{length, length-set}
 use native.Mathlib.Omega.{arith}
 use Prim.Native.Nat.{_+_, _*_, _≤_}
 use Rattle.truth.specs.Passed.{lineWords}
-use Rattle.comparison.proofs.HeldLines.{six-stored}
+use Rattle.comparison.proofs.HeldLines.{record-stored}
 use Rattle.comparison.proofs.writing.write_words.Statement.{statement}
 use Rattle.comparison.proofs.writing.write_words.Tie as tie
 
@@ -18,7 +18,7 @@ returns : tie.Need-returns
 returns c =
     let start : tie.Start = search in let a = start .args in
     let h : lineWords * a .n + lineWords ≤ length (a .out .now) = omega arith in
-    rw (c .put-words .ensures) (simp length-set (omega arith), six-stored _ _ _ _ _ _ _ _ h)
+    rw (c .put-words .ensures) (simp length-set (omega arith), record-stored _ _ _ _ _ h)
 
 pub write-words-spec : {M : Type 1} → statement M
 write-words-spec = tie.close (tie.spec mul-k put-words-requires returns)
