@@ -167,7 +167,7 @@ fn put_head(space: &mut [u16], n: u16)
     ensures { λ r. ⌜ now (space .exit) ≡ Comparison.ruleHead n ++ drop nextHead (now (space .entry)) ⌝ }
 {
     copy(space, 0, &NEXT, sizes::NEXT_HEAD);
-    space[3] = n;
+    space[header::LINES_WORD] = n;
 }
 
 // The words of n lines.

@@ -34,7 +34,7 @@ module _ (M₁ M₂ R before after : List ℕ) (w : Written M₁ M₂ R before a
   lines-after : lines after ≡ lines R
   unfolding word
   lines-after =
-      ap (λ (l : List ℕ). getD l 3 0) (w .stands) ∙ List·getD-append R (drop (length R) before) 0 3 (omega (arith, rule-length))
+      ap lines (w .stands) ∙ List·getD-append R (drop (length R) before) 0 _ (omega (arith, rule-length))
 
   module _ (end : ℕ) (e : end ≡ nextHead + lineWords * lines after) where
     ends : length R ≡ end

@@ -5,6 +5,7 @@ ghost use Rattle.sheets.specs.Machine as Machine;
 use sheets::format;
 use sheets::lines;
 use sheets::machine;
+use sheets::rules;
 
 // Passed on: the most nodes, the words of a line record, and the words of a written rule before its lines.
 pub const NODES: usize = format::NODES;
@@ -12,6 +13,9 @@ pub const NODES: usize = format::NODES;
 pub const LINE_WORDS: usize = format::LINE_WORDS as usize;
 
 pub const NEXT_HEAD: usize = format::NEXT_HEAD;
+
+// The word of a rule sheet's header that has the number of lines.
+pub const LINES_WORD: usize = rules::LINES_WORD;
 
 // The places of a line's operation and of its operands.
 pub const OPERATION: usize = format::OPERATION as usize;
