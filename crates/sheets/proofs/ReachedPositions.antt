@@ -1,8 +1,9 @@
 -- Question 14 by positions: the positions that are reached are those of the states that `reached` has, and two positions mix where
 -- `unmixed` says no.
-use mathlib.Core.Path.{_≡_, refl, sym}
+use mathlib.Core.Path.{_≡_, refl, sym, _∙_}
 use Prim.Native.Nat.{ℕ, zero, suc, _+_, _≤_, _<_}
 use native.Mathlib.Numerals.{add-one}
+use native.Mathlib.Nat.{add-zero}
 use native.Mathlib.Omega.{arith}
 use mathlib.Core.List.{List}
 use mathlib.Core.Bool.{Bool, not, _&&_, _||_}
@@ -32,6 +33,14 @@ module _ (may : ℕ → ℕ → Bool) (n p : ℕ) where
   reach-round k S h i =
       let e = some-same (λ j. S j && may j i) (λ j. reachedAt may n p k j && may j i) (λ j. rw (h j)) n in
       rw (add-one k, h i, e)
+
+  -- where a round adds nothing to the set, no more rounds do
+  pub reach-stays : (k : ℕ) (S : ℕ → Bool) → ((i : ℕ) → S i ≡ reachedAt may n p k i) → ((i : ℕ) → (S i || someBelow n (λ j. S j && may j i)) ≡ S i)
+      → (d i : ℕ) → S i ≡ reachedAt may n p (k + d) i
+  reach-stays k S h same zero i = rw (add-zero k) (h i)
+  reach-stays k S h same (suc d) i =
+      let e : k + suc d ≡ k + d + 1 = omega arith in
+      sym (same i) ∙ rw e (reach-round (k + d) S (reach-stays k S h same d) i)
 
 -- ---- the states at the positions
 

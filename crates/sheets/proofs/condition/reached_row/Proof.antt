@@ -1,10 +1,10 @@
--- `reached_row` meets its contract. The invariant: the set so far has what k rounds reach from p. The measure is what is left of n.
-use mathlib.Core.Path.{_≡_, sym, _∙_}
-use Prim.Native.Nat.{ℕ, _-_, _≤_}
+-- `reached_row` meets its contract. The invariant: the set so far has what k rounds reach from p; where a round adds nothing, so do those left. The measure is what is left of n.
+use mathlib.Core.Path.{_≡_, sym, ap, _∙_}
+use Prim.Native.Nat.{ℕ, _+_, _-_, _≤_}
 use native.Mathlib.Omega.{arith}
 use Rattle.sheets.specs.Words.{bit}
 use Rattle.sheets.specs.inner.Positions.{inRow, reachedAt}
-use Rattle.sheets.proofs.ReachedPositions.{reach-first, reach-round}
+use Rattle.sheets.proofs.ReachedPositions.{reach-first, reach-round, reach-stays}
 use borrow.Author.Needs.{needs}
 use Rattle.sheets.proofs.condition.reached_row.Statement.{statement}
 use Rattle.sheets.proofs.condition.reached_row.Tie as tie
@@ -27,6 +27,21 @@ loop-holds c = (omega arith, λ i. sym (reach-first (inRow (c .args .t1)) (c .ar
 spread-requires : tie.Need-spread-requires Inv-loop μ-loop
 spread-requires c κs = search needs
 
+returns : tie.Need-returns Inv-loop μ-loop
+returns c =
+    let at = c .before .before .before .loop in let a = c .before .before .before .before .args in
+    let e : at .k + (a .n - at .k) ≡ a .n = omega arith in
+    rw e at
+    (reach-stays
+    (inRow (a .t1))
+    (a .n)
+    (a .p)
+    (at .k)
+    (bit (at .out))
+    (at .inv .1)
+    (λ i. sym (c .before .spread .ensures i) ∙ ap (λ (s : ℕ). bit s i) (c .if1 .taken))
+    (a .n - at .k))
+
 add-k : tie.Need-add-k Inv-loop μ-loop
 add-k c = search needs
 
@@ -35,12 +50,11 @@ loop-less c = search needs
 
 loop-again : tie.Need-loop-again Inv-loop μ-loop
 loop-again c =
-    let a = c .before .before .before .args in
-    let at = c .before .before .loop in
-    (omega arith, λ i. c .spread .ensures i ∙ reach-round (inRow (a .t1)) (a .n) (a .p) (at .k) (bit (at .out)) (at .inv .1) i)
+    let at = c .before .before .before .loop in let a = c .before .before .before .before .args in
+    (omega arith, λ i. c .before .spread .ensures i ∙ reach-round (inRow (a .t1)) (a .n) (a .p) (at .k) (bit (at .out)) (at .inv .1) i)
 
-returns : tie.Need-returns Inv-loop μ-loop
-returns c =
+returns-2 : tie.Need-returns-2 Inv-loop μ-loop
+returns-2 c =
     let e : c .before .loop .k ≡ c .before .before .args .n = omega arith in
     λ i. c .before .loop .inv .1 i ∙ rw e
 
@@ -54,7 +68,8 @@ reached-row-spec =
     array-read-out
     loop-holds
     spread-requires
+    returns
     add-k
     loop-less
     loop-again
-    returns)
+    returns-2)
