@@ -9,7 +9,7 @@ use borrow.Author.Tests.{not-false}
 use lib.ListN.{length, getD, set, length-set}
 use lib.Seq.{getD-set-same, getD-set-other}
 use lib.Dec.{T, T-not, not-T}
-use Rattle.truth.specs.Sizes.{membersMost}
+use Rattle.truth.specs.Sizes.{rowWords, membersMost}
 use Rattle.truth.specs.Passed.{each, within}
 use Rattle.truth.specs.inner.Rows.{held, rowsHas}
 use Rattle.truth.proofs.Passed.{and-both, and-left, and-right, surely, find, within-in, each-at, each-in}
@@ -22,7 +22,7 @@ use Rattle.comparison.specs.inner.Tables.{PartedRows, LinedBlocks, OfNod
 -- ---- parting
 
 pub parted-rows : (B B₁ B₂ : List ℕ) (count c a b d e : ℕ) (x : ℕ → Bool) → c < count → count < blockPlaces → length B ≡ blockWords
-    → B₁ ≡ set (set B (2 * c) a) (2 * c + 1) b → B₂ ≡ set (set B₁ (2 * count) d) (2 * count + 1) e
+    → B₁ ≡ set (set B (rowWords * c) a) (rowWords * c + 1) b → B₂ ≡ set (set B₁ (rowWords * count) d) (rowWords * count + 1) e
     → ((s : ℕ) → held a b s ≡ (rowsHas B c s && x s)) → ((s : ℕ) → held d e s ≡ (rowsHas B c s && not (x s))) → PartedRows count c x B B₂
 parted-rows B B₁ B₂ count c a b d e x low high size e₁ e₂ inside outside = record {
   size = ap length e₂ ∙ stored-length B₁ count d e fits ∙ size₁;
@@ -36,7 +36,7 @@ parted-rows B B₁ B₂ count c a b d e x low high size e₁ e₂ inside outside
     size₁ : length B₁ ≡ blockWords
     size₁ = ap length e₁ ∙ stored-length B c a b (omega arith) ∙ size
 
-    fits : 2 * count + 1 < length B₁
+    fits : rowWords * count + 1 < length B₁
     fits = omega (arith, size₁)
 
     unchanged : (q s : ℕ) → q ≢ count → rowsHas B₂ q s ≡ rowsHas B₁ q s
@@ -80,8 +80,8 @@ module _ (M₁ M₂ B₁ B₂ : List ℕ) (c : ℕ) (p₁ p₂ x₁ x₂ : ℕ �
   unfolding Meets In OfNodes
   meets-second n r₂ e₂ f₂ = record {
     no = λ z. ⊎-elim
-        (λ y. let h = held-in (getD B₁ (2 * c) 0) (getD B₁ (2 * c + 1) 0) (y .0) (y .1 .2) in none-both p₁ x₁ (sym f₁ ∙ n) (y .0) (h .0) (h .1) (subst T (sym (e₁ (y .0))) (y .1 .2)) (y .2))
-        (λ y. let h = held-in (getD B₂ (2 * c) 0) (getD B₂ (2 * c + 1) 0) (y .0) (y .1 .2) in none-both p₂ x₂ (sym f₂ ∙ z) (y .0) (h .0) (h .1) (subst T (sym (e₂ (y .0))) (y .1 .2)) (y .2));
+        (λ y. let h = held-in (getD B₁ (rowWords * c) 0) (getD B₁ (rowWords * c + 1) 0) (y .0) (y .1 .2) in none-both p₁ x₁ (sym f₁ ∙ n) (y .0) (h .0) (h .1) (subst T (sym (e₁ (y .0))) (y .1 .2)) (y .2))
+        (λ y. let h = held-in (getD B₂ (rowWords * c) 0) (getD B₂ (rowWords * c + 1) 0) (y .0) (y .1 .2) in none-both p₂ x₂ (sym f₂ ∙ z) (y .0) (h .0) (h .1) (subst T (sym (e₂ (y .0))) (y .1 .2)) (y .2));
     yes = λ z i. let m = some-both p₂ x₂ (sym f₂ ∙ z) in let t = subst T (e₂ (m .0)) (m .2) in inr (m .0, (m .1, i .1 (m .0) t, t), m .3);
   }
 
@@ -112,4 +112,4 @@ module _ (M₁ M₂ B₁ B₂ : List ℕ) (c : ℕ) (x₁ x₂ : ℕ → Bool) (
   }
     where
       in-row : (B : List ℕ) (s : ℕ) → T (rowsHas B c s) → T (within 1 membersMost s)
-      in-row B s t = let h = held-in (getD B (2 * c) 0) (getD B (2 * c + 1) 0) s t in within-in 1 membersMost s (h .0) (h .1)
+      in-row B s t = let h = held-in (getD B (rowWords * c) 0) (getD B (rowWords * c + 1) 0) s t in within-in 1 membersMost s (h .0) (h .1)

@@ -9,6 +9,7 @@ use mathlib.Core.Bool.{Bool, true, false, not, _||_}
 use lib.ListN.{length, getD, set, length-set}
 use lib.Seq.{getD-set-same, getD-set-other}
 use lib.Dec.{T, not-T}
+use Rattle.truth.specs.Passed.{nodesMost}
 use Rattle.comparison.specs.inner.Sizes.{nodePlaces}
 use Rattle.truth.specs.inner.Rows.{tally}
 use Rattle.truth.proofs.Passed.{and-left, and-both, dec-test}
@@ -23,8 +24,8 @@ or-right true b t = tt
 or-right false b t = t
 
 -- what is left becomes less
-pub left-falls : (left left′ : ℕ → Bool) (u : ℕ) → Less left u left′ → 1 ≤ u → u ≤ 128 → T (left u) → tally 128 left′ < tally 128 left
-left-falls left left′ u less lo hi t = omega (arith, less-falls left left′ u less lo hi t, tally-number 128 left, tally-number 128 left′)
+pub left-falls : (left left′ : ℕ → Bool) (u : ℕ) → Less left u left′ → 1 ≤ u → u ≤ nodesMost → T (left u) → tally nodesMost left′ < tally nodesMost left
+left-falls left left′ u less lo hi t = omega (arith, less-falls left left′ u less lo hi t, tally-number nodesMost left, tally-number nodesMost left′)
 
 -- ---- the nodes of a row marked: those that are not left have the mark
 pub record Marking (row : ℕ → Bool) (e : ℕ) (before now : List ℕ) (left : ℕ → Bool) : Type 0 where

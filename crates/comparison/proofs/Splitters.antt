@@ -7,7 +7,7 @@ use mathlib.Core.Bool.{Bool, _&&_}
 use borrow.Author.Tests.{le-leb}
 use lib.ListN.{length, getD, length-append}
 use lib.Dec.{leb}
-use Rattle.truth.specs.Sizes.{membersMost}
+use Rattle.truth.specs.Sizes.{rowWords, membersMost}
 use Rattle.truth.specs.Passed.{kripke, nodes, signals, within, nodesMost}
 use Rattle.truth.specs.inner.Rows.{rowHas, rowsHas, leadsInto}
 use Rattle.truth.specs.declared.rows.Row.{Row}
@@ -31,8 +31,8 @@ passing-node : (n : ℕ) (q : ℕ → Bool) (s : ℕ) → n ≤ nodesMost → 1 
 passing-node n q s h lo hi = rw (le-leb s n hi, passed (within 1 membersMost s) (within-in 1 membersMost s lo (omega arith)))
 
 -- the nodes of a row with an edge into another, both loaded
-pub loaded-leading : (M B : List ℕ) (r q : Row) (c d s : ℕ) → (r .low ≡ getD B (2 * c) 0) × (r .high ≡ getD B (2 * c + 1) 0)
-    → (q .low ≡ getD B (2 * d) 0) × (q .high ≡ getD B (2 * d + 1) 0) → (rowHas r s && leadsInto M (rowHas q) s) ≡ (rowsHas B c s && leadsInto M (rowsHas B d) s)
+pub loaded-leading : (M B : List ℕ) (r q : Row) (c d s : ℕ) → (r .low ≡ getD B (rowWords * c) 0) × (r .high ≡ getD B (rowWords * c + 1) 0)
+    → (q .low ≡ getD B (rowWords * d) 0) × (q .high ≡ getD B (rowWords * d + 1) 0) → (rowHas r s && leadsInto M (rowHas q) s) ≡ (rowsHas B c s && leadsInto M (rowsHas B d) s)
 unfolding leadsInto
 loaded-leading M B r q c d s e f = rw (e .0, e .1, f .0, f .1)
 

@@ -1,6 +1,7 @@
 // What is printed of labelled lines.
 ghost use Prim.Native.Nat.{_*_, _≤_};
 ghost use lib.ListN.{length};
+ghost use Rattle.truth.specs.Sizes.{rowWords};
 use libc::STDOUT_FILENO;
 use truth::rows::Row;
 use truth::tables::line_row;
@@ -45,7 +46,7 @@ fn line(j: u16, nodes: u16, row: Row) {
 
 // Every line with the nodes where it is true.
 pub fn rows(rows: &[u64], nodes: u16, lines: u16)
-    requires { ⌜ 2 * lines ≤ length (now rows) ⌝ }
+    requires { ⌜ rowWords * lines ≤ length (now rows) ⌝ }
 {
     let mut j: u16 = 0;
     while j < lines {

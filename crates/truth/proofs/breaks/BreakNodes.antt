@@ -9,6 +9,7 @@ use mathlib.Core.Bool.{Bool, true, false, true≢false}
 use lib.Dec.{T, eqb, eqb→eq}
 use lib.ListN.{length, getD}
 use borrow.Author.Tests.{eq-eqb}
+use Rattle.truth.specs.Sizes.{rowWords}
 use Rattle.sheets.specs.Words.{within}
 use Rattle.sheets.specs.Questions.{Refusal, firstNo}
 use Rattle.sheets.specs.Machine.{nodes, startFlag, kripke}
@@ -83,9 +84,9 @@ labelled-rows M R before after (Done k c p) answer none = answer .leaves .rows
 module _ (M R before after : List ℕ) (a : Labelled) (answer : LabelAnswer M R before after a)
     (none : 0 ≡ firstNo (labelQuestions M R (length before)) .number) where
   abbrev lastPlace : ℕ
-  lastPlace = 2 * (lines R - 1)
+  lastPlace = rowWords * (lines R - 1)
 
-  pub last-in : (1 ≤ lines R) × (2 * lines R ≤ length after)
+  pub last-in : (1 ≤ lines R) × (rowWords * lines R ≤ length after)
   last-in = (
     some-line lent R (rules-accepted M R (length before) none),
     omega (arith, labelled-rows M R before after a answer none .size, space-enough M R (length before) none),

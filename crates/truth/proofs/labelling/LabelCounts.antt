@@ -19,7 +19,7 @@ use Rattle.sheets.proofs.AcceptedMachine.{nodes-sized}
 use Rattle.sheets.proofs.AcceptedRule.{some-line}
 use Rattle.sheets.proofs.BitLaws.{sum-same}
 use Rattle.sheets.specs.Format.{nodesMost}
-use Rattle.truth.specs.Sizes.{membersMost, rowWordBits}
+use Rattle.truth.specs.Sizes.{rowWords, membersMost, rowWordBits}
 use Rattle.truth.specs.Truth.{TrueAt}
 use Rattle.truth.specs.inner.Rows.{held}
 use Rattle.truth.specs.Labelling.{rowBit, rowOnes, Rows, HowMany, none, one-more, no-more}
@@ -47,10 +47,10 @@ number-clear n k p clear =
 
 module _ (M R before after : List ℕ) (small : nodes M ≤ nodesMost) (some : 1 ≤ lines R) (rows : Rows M R before after) where
   abbrev low : ℕ
-  low = word after (2 * (lines R - 1))
+  low = word after (rowWords * (lines R - 1))
 
   abbrev high : ℕ
-  high = word after (2 * (lines R - 1) + 1)
+  high = word after (rowWords * (lines R - 1) + 1)
 
   module _ (l : low < 2 ^ rowWordBits) (h : high < 2 ^ rowWordBits) where
     -- the ones in the last row are the nodes whose bit it has
@@ -92,5 +92,5 @@ count-true M R before after kept count share answer words =
     let some = some-line lent R (rules-accepted M R (length before) asked) in
     let small = nodes-sized M (machine-accepted M R (length before) asked) .1 in
     let rows = answer .leaves .rows in
-    let e = answer .leaves .counted ∙ ones-counted M R before after small some rows (words (2 * (lines R - 1))) (words (2 * (lines R - 1) + 1)) in
+    let e = answer .leaves .counted ∙ ones-counted M R before after small some rows (words (rowWords * (lines R - 1))) (words (rowWords * (lines R - 1) + 1)) in
     rw e (tested-many (TrueAt lent M R (lines R)) (rowBit after (lines R)) (nodes M) (λ s lo hi. rows .truth (lines R) s some (omega arith) lo hi))

@@ -17,7 +17,7 @@ use Rattle.truth.specs.Sizes.{rowWords}
 use Rattle.truth.specs.Labelling.{labelQuestions}
 
 abbrev pub spaceQuestion : List ℕ → ℕ → List Question
-spaceQuestion R space = ask 17 0 (leb (2 * lines R) space) ∷ []
+spaceQuestion R space = ask 17 0 (leb (rowWords * lines R) space) ∷ []
 
 module _ (M R : List ℕ) (space : ℕ) where
   abbrev labelled : ℕ
@@ -48,7 +48,7 @@ module _ (M R : List ℕ) (space : ℕ) where
     rules-accepted = accepted .0 .rules
 
     pub space-enough : rowWords * lines R ≤ space
-    space-enough = leb→le (2 * lines R) space (accepted .1 .0)
+    space-enough = leb→le (rowWords * lines R) space (accepted .1 .0)
 
   -- accepted sheets, the rule over the machine's signals, and space enough: labelling refuses nothing
   pub label-accepts : machineRefusal M ≡ 0 → ruleRefusal lent R ≡ 0 → T (overSignals lent (signals M) R) → rowWords * lines R ≤ space
@@ -56,4 +56,4 @@ module _ (M R : List ℕ) (space : ℕ) where
   unfolding labelQuestions
   label-accepts machine rules over enough =
       call-passes M R (spaceQuestion R space) space-sheeted (record { machine = machine; rules = rules; over = over })
-      (subst⁻¹ T (le-leb (2 * lines R) space enough) tt, tt)
+      (subst⁻¹ T (le-leb (rowWords * lines R) space enough) tt, tt)

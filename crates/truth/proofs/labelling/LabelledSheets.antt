@@ -63,7 +63,7 @@ module _ (M R : List ℕ) (machine : machineRefusal M ≡ 0) (rules : ruleRefusa
       done before after k c p words l =
           let b = Iff·trans (l .keeps) (Iff·symm keeps) in
           let ek : k ≡ kept = same-tests k kept (b .0) (b .1) in
-          let ones = ones-counted M R before after small some (l .rows) (words (2 * (lines R - 1))) (words (2 * (lines R - 1) + 1)) in
+          let ones = ones-counted M R before after small some (l .rows) (words (rowWords * (lines R - 1))) (words (rowWords * (lines R - 1) + 1)) in
           let same = number-same (nodes M) (rowBit after (lines R)) (holds (lines R)) (λ s lo hi. bits before after (l .rows) (lines R) s some (omega arith) lo (omega (arith, small))) in
           let ec : c ≡ count = l .counted ∙ ones ∙ same ∙ counted in
           let ep : p ≡ share = l .shared ∙ ap (λ (x : ℕ). percent x (nodes M)) ec ∙ shared in

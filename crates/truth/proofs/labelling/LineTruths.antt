@@ -14,8 +14,8 @@ use Rattle.sheets.specs.Rules.{lent, automata, automaton, line, lines, ruleRefu
 use Rattle.sheets.proofs.AcceptedMachine.{nodes-sized, edge-stays}
 use Rattle.sheets.proofs.FormedLines.{formed, over-most}
 use Rattle.sheets.proofs.Search.{le-or-gt}
-use Rattle.sheets.specs.Format.{nodesMost}
-use Rattle.truth.specs.Sizes.{membersMost}
+use Rattle.sheets.specs.Format.{nodesMost, signalsMost}
+use Rattle.truth.specs.Sizes.{rowWords, membersMost}
 use Rattle.truth.specs.Truth.{Means, TrueAt}
 use Rattle.truth.specs.inner.Rows.{held}
 use Rattle.truth.specs.Labelling.{rowBit, RowsTo}
@@ -38,8 +38,8 @@ module _ (M R : List ℕ) (machine : machineRefusal M ≡ 0) (rules : ruleRefusa
   abbrev Same : ℕ → ℕ → Type 0
   Same s t = (s ≡ t) × ((1 ≤ s) × (s ≤ nodes M))
 
-  same-nodes : Bisimulation 16 (kripke M) (kripke M) Same
-  same-nodes = equal-nodes 16 (kripke M) (λ s. (1 ≤ s) × (s ≤ nodes M)) (λ s s′ r. edge-stays M machine s (r .0) (r .1) s′)
+  same-nodes : Bisimulation signalsMost (kripke M) (kripke M) Same
+  same-nodes = equal-nodes signalsMost (kripke M) (λ s. (1 ≤ s) × (s ≤ nodes M)) (λ s s′ r. edge-stays M machine s (r .0) (r .1) s′)
 
   -- a line is true at a node where it says so of rows that say the truths of the lines above it
   pub line-true : (P : ℕ → ℕ → Bool) (j : ℕ) → 1 ≤ j → j ≤ lines R
@@ -47,14 +47,14 @@ module _ (M R : List ℕ) (machine : machineRefusal M ≡ 0) (rules : ruleRefusa
       → (s : ℕ) → 1 ≤ s → s ≤ nodes M → Means (kripke M) (automaton R) (λ i s. T (P i s)) (line lent R j) s ↔ TrueAt lent M R j s
   line-true P j lo hi above s l h =
       Iff·trans
-      (line-agrees 16 (kripke M) (kripke M) Same same-nodes (automata R) (automaton R) (λ i s. T (P i s)) (TrueAt lent M R) j
-      (λ i l h s t b. rw (← b .0) (above i s l h (b .1 .0) (b .1 .1))) (line lent R j) (formed lent R rules 16 (over-most lent R rules) j lo hi) s s (refl, (l, h)))
+      (line-agrees signalsMost (kripke M) (kripke M) Same same-nodes (automata R) (automaton R) (λ i s. T (P i s)) (TrueAt lent M R) j
+      (λ i l h s t b. rw (← b .0) (above i s l h (b .1 .0) (b .1 .1))) (line lent R j) (formed lent R rules signalsMost (over-most lent R rules) j lo hi) s s (refl, (l, h)))
       (Iff·symm (truth-recursion lent M R rules j s lo hi))
 
   -- one row more: line k is the next, and its row's two words are stored
   module _ {before now : List ℕ} (after : List ℕ) {j : ℕ} (k a b : ℕ) (w : RowsTo M R j before now) (next : k ≡ j + 1) (most : k ≤ lines R)
-      (fits : 2 * k ≤ length now) (row : LineRow M R now k (held a b)) (e : after ≡ set (set now (2 * (k - 1)) a) (2 * (k - 1) + 1) b) where
-    room : 2 * (k - 1) + 1 < length now
+      (fits : rowWords * k ≤ length now) (row : LineRow M R now k (held a b)) (e : after ≡ set (set now (rowWords * (k - 1)) a) (rowWords * (k - 1) + 1) b) where
+    room : rowWords * (k - 1) + 1 < length now
     room = omega arith
 
     bit-old : (i s : ℕ) → 1 ≤ i → i ≤ j → 1 ≤ s → s ≤ membersMost → rowBit after i s ≡ rowBit now i s
@@ -64,7 +64,7 @@ module _ (M R : List ℕ) (machine : machineRefusal M ≡ 0) (rules : ruleRefusa
     bit-new : (i s : ℕ) → i ≡ k → 1 ≤ s → s ≤ membersMost → rowBit after i s ≡ held a b s
     bit-new i s q l h = row-bit after i s l h ∙ rw (q, e) (stored-here now (k - 1) a b room s)
 
-    word-old : (i : ℕ) → 2 * k ≤ i → word after i ≡ word now i
+    word-old : (i : ℕ) → rowWords * k ≤ i → word after i ≡ word now i
     unfolding word
     word-old i h = rw e (stored-word now (k - 1) a b room i (λ q. omega arith) (λ q. omega arith))
 

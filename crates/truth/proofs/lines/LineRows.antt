@@ -48,14 +48,14 @@ module _ {M R next back rows : List ℕ} {j : ℕ} (pre : LineReady M R next bac
 
   -- ---- what the lines referred to ask for
 
-  above : {k : ℕ} → (1 ≤ k) × (k < j) → (1 ≤ k) × (2 * k ≤ length rows)
+  above : {k : ℕ} → (1 ≤ k) × (k < j) → (1 ≤ k) × (rowWords * k ≤ length rows)
   above r = (r .0, omega (arith, r .0, r .1, pre .above))
 
-  pub negation-above : {k : ℕ} → decoded R j ≡ Formed (Negation k) → (1 ≤ k) × (2 * k ≤ length rows)
+  pub negation-above : {k : ℕ} → decoded R j ≡ Formed (Negation k) → (1 ≤ k) × (rowWords * k ≤ length rows)
   unfolding FormedLines.Formed
   negation-above {k} e = above (refer (Negation k) e)
 
-  pub either-above : {i k : ℕ} → decoded R j ≡ Formed (Either i k) → ((1 ≤ i) × (2 * i ≤ length rows)) × ((1 ≤ k) × (2 * k ≤ length rows))
+  pub either-above : {i k : ℕ} → decoded R j ≡ Formed (Either i k) → ((1 ≤ i) × (rowWords * i ≤ length rows)) × ((1 ≤ k) × (rowWords * k ≤ length rows))
   unfolding FormedLines.Formed
   either-above {i} {k} e = let r = refer (Either i k) e in (above (r .0), above (r .1))
 

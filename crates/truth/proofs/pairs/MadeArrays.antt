@@ -23,6 +23,7 @@ use denote.Builtin.{u8, u16}
 use denote.Slice.{Room}
 use denote.Steps.{only}
 use denote.Struct.Laws as LL
+use Rattle.truth.specs.Sizes.{pairsMost}
 use Rattle.truth.specs.declared.path.Made.{Made}
 use Rattle.truth.proofs.path.Made as D
 use Rattle.truth.proofs.path.Made.Laws as D′
@@ -30,15 +31,15 @@ use Rattle.truth.proofs.path.Shown as S
 use Rattle.truth.proofs.path.Shown.Laws as S′
 use Rattle.truth.proofs.pairs.LentArray.{arrayOf}
 
-array-is : (w : Width) (l : List ℕ) → Is (Array (UInt w) 2048) (map (λ x. x) l) (arrayOf w (map (λ x. x) l) ∷ [])
-    → Is (Array (UInt w) 2048) l (arrayOf w l ∷ [])
-array-is w l h = subst (λ (k : List ℕ). Is (Array (UInt w) 2048) k (arrayOf w k ∷ [])) (map-id l) h
+array-is : (w : Width) (l : List ℕ) → Is (Array (UInt w) pairsMost) (map (λ x. x) l) (arrayOf w (map (λ x. x) l) ∷ [])
+    → Is (Array (UInt w) pairsMost) l (arrayOf w l ∷ [])
+array-is w l h = subst (λ (k : List ℕ). Is (Array (UInt w) pairsMost) k (arrayOf w k ∷ [])) (map-id l) h
 
-pub array-room : (w : Width) → Room (UInt w) 2048 → (l : List ℕ) → Is (Array (UInt w) 2048) l (arrayOf w l ∷ []) → Room (UInt w) (length l)
+pub array-room : (w : Width) → Room (UInt w) pairsMost → (l : List ℕ) → Is (Array (UInt w) pairsMost) l (arrayOf w l ∷ []) → Room (UInt w) (length l)
 array-room w room l h = subst (Room (UInt w)) (sym (h .1 .0 .1)) room
 
 module _ (r : Made) (v : Val) (is : Is D.the-row r (v ∷ [])) where
-  pub nodes-is : Is (Array u8 2048) (r .nodes) (arrayOf w8 (r .nodes) ∷ [])
+  pub nodes-is : Is (Array u8 pairsMost) (r .nodes) (arrayOf w8 (r .nodes) ∷ [])
   nodes-is = array-is w8 (r .nodes) (LL.owed D.the-type D′.the-laws r (v ∷ []) is .0)
 
   pub answer-is : Is S.the-row (r .answer) (S′.lowered (r .answer) ∷ [])
@@ -46,7 +47,7 @@ module _ (r : Made) (v : Val) (is : Is D.the-row r (v ∷ [])) where
       let h = LL.owed D.the-type D′.the-laws r (v ∷ []) is .1 .0 in
       subst (λ (us : List Val). Is S.the-row (r .answer) us) (S′.the-field-laws .low-is (r .answer) _ h) h
 
-  pub states-is : Is (Array u16 2048) (r .states) (arrayOf w16 (r .states) ∷ [])
+  pub states-is : Is (Array u16 pairsMost) (r .states) (arrayOf w16 (r .states) ∷ [])
   states-is = array-is w16 (r .states) (LL.owed D.the-type D′.the-laws r (v ∷ []) is .1 .1 .0)
 
   pub lowered-is : v ≡ D′.lowered r
@@ -57,13 +58,13 @@ module _ {M : Type 1} (𝓤 : URA M) (H : Heap 𝓤) (A : Atoms 𝓤) (r : Made)
   whole-cell = fat fullShare D′.mir l 0 (D′.lowered r)
 
   abbrev pub nodes-cell : Fml
-  nodes-cell = fat fullShare (tyArray (tyInt w8) 2048) l 0 (arrayOf w8 (r .nodes))
+  nodes-cell = fat fullShare (tyArray (tyInt w8) pairsMost) l 0 (arrayOf w8 (r .nodes))
 
   abbrev answer-cell : Fml
-  answer-cell = fat fullShare S′.mir l 2048 (S′.lowered (r .answer))
+  answer-cell = fat fullShare S′.mir l pairsMost (S′.lowered (r .answer))
 
   abbrev pub states-cell : Fml
-  states-cell = fat fullShare (tyArray (tyInt w16) 2048) l 2054 (arrayOf w16 (r .states))
+  states-cell = fat fullShare (tyArray (tyInt w16) pairsMost) l 2054 (arrayOf w16 (r .states))
 
   -- the three fields, side by side
   abbrev Fields : SProp 𝓤

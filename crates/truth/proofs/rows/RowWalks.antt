@@ -12,7 +12,7 @@ use Rattle.sheets.specs.Words.{within}
 use Rattle.sheets.proofs.Tests.{and-left, and-right, and-both, or-left, or-right, or-cases, eqb-other}
 use Rattle.sheets.proofs.Search.{within-in}
 use Rattle.sheets.proofs.Counting.{number, number-strict}
-use Rattle.truth.specs.Sizes.{membersMost}
+use Rattle.truth.specs.Sizes.{rowWords, membersMost}
 use Rattle.truth.specs.inner.Rows.{held, rowsHas, Foremost}
 use Rattle.truth.specs.inner.Pairs.{Before}
 use Rattle.truth.proofs.rows.RowLaws.{held-in}
@@ -64,7 +64,7 @@ module _ (back : List ℕ) (from : ℕ → Bool) where
   gathered-none out e = record { fewer = λ u t. t; found = λ s t. absurd (rw (e s) at t); passed = λ u s t b. inl t }
 
   pub gathered-next : (left left′ out out′ : ℕ → Bool) (u a b : ℕ) → Gathered back from left out → T (left u) → Less left u left′
-      → a ≡ getD back (2 * (u - 1)) 0 → b ≡ getD back (2 * (u - 1) + 1) 0 → ((s : ℕ) → out′ s ≡ (out s || held a b s)) → Gathered back from left′ out′
+      → a ≡ getD back (rowWords * (u - 1)) 0 → b ≡ getD back (rowWords * (u - 1) + 1) 0 → ((s : ℕ) → out′ s ≡ (out s || held a b s)) → Gathered back from left′ out′
   gathered-next left left′ out out′ u a b g t less ea eb more = record {
     fewer = λ v x. g .fewer v (less-in left left′ u less v x);
     found = λ s x. ⊎-elim (g .found s) (λ y. (u, g .fewer u t, rw (ea, eb) at y)) (or-cases (out s) (held a b s) (rw (more s) at x));

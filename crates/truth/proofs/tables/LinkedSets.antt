@@ -12,7 +12,7 @@ use lib.Dec.{T, eqb, eqb→eq, eqb-refl}
 use Rattle.sheets.specs.Words.{within}
 use Rattle.sheets.proofs.Tests.{and-right, and-both, or-left, or-right, or-cases}
 use Rattle.sheets.proofs.Search.{within-in}
-use Rattle.truth.specs.Sizes.{positionsMost, membersMost, setWords}
+use Rattle.truth.specs.Sizes.{rowWords, positionsMost, membersMost, setWords}
 use Rattle.truth.specs.inner.Rows.{held, rowsHas}
 use Rattle.truth.specs.inner.Pairs.{NoRow}
 use Rattle.truth.specs.inner.Links.{Joined, Linked, Among}
@@ -21,7 +21,7 @@ use Rattle.truth.proofs.rows.RowLaws.{held-in}
 use Rattle.truth.proofs.tables.TableLaws.{stored-length, stored-more}
 
 -- the words of row k with one member more
-pub joined : (B C : List ℕ) (k s a b : ℕ) → 2 * k + 1 < length B → C ≡ set (set B (2 * k) a) (2 * k + 1) b
+pub joined : (B C : List ℕ) (k s a b : ℕ) → rowWords * k + 1 < length B → C ≡ set (set B (rowWords * k) a) (rowWords * k + 1) b
     → ((i : ℕ) → held a b i ≡ (rowsHas B k i || (within 1 membersMost s && eqb i s))) → Joined k s B C
 joined B C k s a b h e more = rw e (record { size = stored-length B k a b h; rows = stored-more B k a b h (λ i. within 1 membersMost s && eqb i s) more })
 

@@ -11,13 +11,13 @@ use lib.ListN.{length, getD, set, length-set, replicate}
 use lib.Seq.{getD-set-same, getD-set-other}
 use lib.Dec.{eqb}
 use Rattle.sheets.proofs.Tests.{eqb-same, eqb-other}
-use Rattle.truth.specs.Sizes.{membersMost, pairAt}
+use Rattle.truth.specs.Sizes.{rowWords, membersMost, pairAt}
 use Rattle.truth.specs.inner.Rows.{held, rowHas, rowsHas}
 use Rattle.truth.specs.inner.Pairs.{NoRow, Cleared, timeOf}
 use Rattle.truth.specs.declared.rows.Row.{Row}
 use Rattle.truth.proofs.rows.RowLaws.{held-none}
 
-pub loaded : (B : List ℕ) (r : Row) (p q s : ℕ) → (r .low ≡ getD B (2 * p) 0) × (r .high ≡ getD B (2 * p + 1) 0) → q ≡ p → rowHas r s ≡ rowsHas B q s
+pub loaded : (B : List ℕ) (r : Row) (p q s : ℕ) → (r .low ≡ getD B (rowWords * p) 0) × (r .high ≡ getD B (rowWords * p + 1) 0) → q ≡ p → rowHas r s ≡ rowsHas B q s
 loaded B r p q s l e = rw (l .0, l .1, e)
 
 -- ---- a new table
@@ -28,21 +28,21 @@ zero-word (suc n) zero = refl
 zero-word (suc n) (suc i) = zero-word n i
 
 pub zero-row : (n p s : ℕ) → rowsHas (replicate n 0) p s ≡ false
-zero-row n p s = rw (zero-word n (2 * p), zero-word n (2 * p + 1)) (held-none s)
+zero-row n p s = rw (zero-word n (rowWords * p), zero-word n (rowWords * p + 1)) (held-none s)
 
 -- ---- a row stored
-module _ (B : List ℕ) (p a b : ℕ) (h : 2 * p + 1 < length B) where
+module _ (B : List ℕ) (p a b : ℕ) (h : rowWords * p + 1 < length B) where
   abbrev pub stored : List ℕ
-  stored = set (set B (2 * p) a) (2 * p + 1) b
+  stored = set (set B (rowWords * p) a) (rowWords * p + 1) b
 
-  stored-low : getD stored (2 * p) 0 ≡ a
-  stored-low = getD-set-other (set B (2 * p) a) (2 * p + 1) (2 * p) b 0 (λ e. omega arith) ∙ getD-set-same B (2 * p) a 0 (omega arith)
+  stored-low : getD stored (rowWords * p) 0 ≡ a
+  stored-low = getD-set-other (set B (rowWords * p) a) (rowWords * p + 1) (rowWords * p) b 0 (λ e. omega arith) ∙ getD-set-same B (rowWords * p) a 0 (omega arith)
 
-  stored-high : getD stored (2 * p + 1) 0 ≡ b
-  stored-high = getD-set-same (set B (2 * p) a) (2 * p + 1) b 0 (rw (length-set B (2 * p) a) h)
+  stored-high : getD stored (rowWords * p + 1) 0 ≡ b
+  stored-high = getD-set-same (set B (rowWords * p) a) (rowWords * p + 1) b 0 (rw (length-set B (rowWords * p) a) h)
 
-  pub stored-word : (k : ℕ) → (k ≡ 2 * p → ⊥) → (k ≡ 2 * p + 1 → ⊥) → getD stored k 0 ≡ getD B k 0
-  stored-word k n m = getD-set-other (set B (2 * p) a) (2 * p + 1) k b 0 m ∙ getD-set-other B (2 * p) k a 0 n
+  pub stored-word : (k : ℕ) → (k ≡ rowWords * p → ⊥) → (k ≡ rowWords * p + 1 → ⊥) → getD stored k 0 ≡ getD B k 0
+  stored-word k n m = getD-set-other (set B (rowWords * p) a) (rowWords * p + 1) k b 0 m ∙ getD-set-other B (rowWords * p) k a 0 n
 
   pub stored-length : length stored ≡ length B
   stored-length = simp length-set
@@ -51,7 +51,7 @@ module _ (B : List ℕ) (p a b : ℕ) (h : 2 * p + 1 < length B) where
   stored-here s = rw (stored-low, stored-high)
 
   pub stored-other : (q s : ℕ) → (q ≡ p → ⊥) → rowsHas stored q s ≡ rowsHas B q s
-  stored-other q s n = rw (stored-word (2 * q) (λ e. n (omega arith)) (λ e. omega arith), stored-word (2 * q + 1) (λ e. omega arith) (λ e. n (omega arith)))
+  stored-other q s n = rw (stored-word (rowWords * q) (λ e. n (omega arith)) (λ e. omega arith), stored-word (rowWords * q + 1) (λ e. omega arith) (λ e. n (omega arith)))
 
   -- with more nodes
   pub stored-more : (x : ℕ → Bool) → ((s : ℕ) → held a b s ≡ (rowsHas B p s || x s)) → (q s : ℕ) → rowsHas stored q s ≡ (rowsHas B q s || (eqb q p && x s))
@@ -60,7 +60,7 @@ module _ (B : List ℕ) (p a b : ℕ) (h : 2 * p + 1 < length B) where
       (λ n. rw (eqb-other q p n, or-false (rowsHas B q s)) (stored-other q s n))
 
 -- and with none
-pub emptied : (B C : List ℕ) (p a b : ℕ) → 2 * p + 1 < length B → C ≡ set (set B (2 * p) a) (2 * p + 1) b → ((s : ℕ) → held a b s ≡ false) → Cleared p B C
+pub emptied : (B C : List ℕ) (p a b : ℕ) → rowWords * p + 1 < length B → C ≡ set (set B (rowWords * p) a) (rowWords * p + 1) b → ((s : ℕ) → held a b s ≡ false) → Cleared p B C
 emptied B C p a b h e none =
     rw e (record {
       size = stored-length B p a b h;
@@ -77,7 +77,7 @@ module _ {z : ℕ} (P : ℕ → ℕ → Bool → Type 0) (B : List ℕ) where
   pub filled-none : length B ≡ z → Filled z P 0 B
   filled-none e = record { size = e; rows = λ i s l. absurd (omega arith) }
 
-  pub filled-more : (C : List ℕ) (k a b : ℕ) → Filled z P k B → 2 * k + 1 < z → C ≡ set (set B (2 * k) a) (2 * k + 1) b → ((s : ℕ) → P k s (held a b s))
+  pub filled-more : (C : List ℕ) (k a b : ℕ) → Filled z P k B → rowWords * k + 1 < z → C ≡ set (set B (rowWords * k) a) (rowWords * k + 1) b → ((s : ℕ) → P k s (held a b s))
       → Filled z P (k + 1) C
   filled-more C k a b f z e here =
       rw e (record {
@@ -86,11 +86,11 @@ module _ {z : ℕ} (P : ℕ → ℕ → Bool → Type 0) (B : List ℕ) where
             (λ i l s. rw (stored-other B k a b fits i s (λ q. omega arith)) (f .rows i s l)) (λ s. rw (stored-here B k a b fits s) (here s)) i l s;
       })
     where
-      fits : 2 * k + 1 < length B
+      fits : rowWords * k + 1 < length B
       fits = omega (arith, f .size)
 
 -- the rows after those stored are as empty as they were
-pub empty-after : (B C : List ℕ) (k a b : ℕ) → 2 * k + 1 < length B → C ≡ set (set B (2 * k) a) (2 * k + 1) b → ((i : ℕ) → k ≤ i → NoRow B i)
+pub empty-after : (B C : List ℕ) (k a b : ℕ) → rowWords * k + 1 < length B → C ≡ set (set B (rowWords * k) a) (rowWords * k + 1) b → ((i : ℕ) → k ≤ i → NoRow B i)
     → (i : ℕ) → k + 1 ≤ i → NoRow C i
 empty-after B C k a b h e none i l s x = none i (omega arith) s (rw (stored-other B k a b h i s (λ q. omega arith)) at (rw e at x))
 

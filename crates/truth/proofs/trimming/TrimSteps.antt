@@ -8,7 +8,7 @@ use lib.ListN.{getD}
 use lib.Dec.{T, not-T}
 use Rattle.sheets.specs.Words.{each}
 use Rattle.sheets.proofs.Tests.{passed, failed, and-left, and-right, and-both, or-left, or-right, or-cases}
-use Rattle.truth.specs.Sizes.{membersMost, lowAt, highAt, cell}
+use Rattle.truth.specs.Sizes.{rowWords, membersMost, lowAt, highAt, cell}
 use Rattle.truth.specs.inner.Rows.{held, rowsHas}
 use Rattle.truth.specs.inner.Pairs.{Onward}
 use Rattle.truth.specs.inner.Links.{Among}
@@ -52,7 +52,7 @@ module _ (allow table : List ℕ) (p : ℕ) (from : ℕ → Bool) where
 
     pub passing-next : (left′ out′ step : ℕ → Bool) (u a b c d : ℕ) → T (left u) → Less left u left′ → ((s : ℕ) → out′ s ≡ (out s || step s))
         → ((s : ℕ) → step s ≡ (held a b s && held c d s)) → a ≡ getD allow (lowAt (cell p (u - 1))) 0 → b ≡ getD allow (highAt (cell p (u - 1))) 0
-        → c ≡ getD table (2 * (u - 1)) 0 → d ≡ getD table (2 * (u - 1) + 1) 0 → Passing allow table p from left′ out′
+        → c ≡ getD table (rowWords * (u - 1)) 0 → d ≡ getD table (rowWords * (u - 1) + 1) 0 → Passing allow table p from left′ out′
     passing-next left′ out′ step u a b c d t less e f ea eb ec ed = record {
       visited = visited-next _ from left (g .visited) _ left′ u less (λ v y s x. rw (whole s) (or-left (out s) (step-is s) (y s x)))
           (λ s x. rw (whole s) (or-right (out s) (step-is s) (and-both (rowsHas allow (cell p (u - 1)) s) (rowsHas table (u - 1) s) (x .0) (x .1))));
@@ -79,7 +79,7 @@ module _ (allow xs : List ℕ) (e f p s k a b : ℕ) (h : Bool) (ea : a ≡ getD
   pub allowed-not : h ≡ false → Meeting allow xs e f p s k → ⊥
   allowed-not n r = rw (sym allowed-is ∙ n) at (r .0)
 
-  module _ (c d : ℕ) (m : Bool) (ec : c ≡ getD xs (2 * k) 0) (ed : d ≡ getD xs (2 * k + 1) 0) (meets : m ≡ not (each membersMost (λ u. not (held e f u && held c d u)))) where
+  module _ (c d : ℕ) (m : Bool) (ec : c ≡ getD xs (rowWords * k) 0) (ed : d ≡ getD xs (rowWords * k + 1) 0) (meets : m ≡ not (each membersMost (λ u. not (held e f u && held c d u)))) where
     common-is : T m ↔ Common (held e f) (rowsHas xs k)
     common-is = rw (ec, ed) at (meet-is e f c d m meets)
 
@@ -90,14 +90,14 @@ module _ (allow xs : List ℕ) (e f p s k a b : ℕ) (h : Bool) (ea : a ≡ getD
     meeting-not n r = rw n at (common-is .1 (r .1))
 
 -- ---- a step is a meeting with the successors
-module _ (allow next xs : List ℕ) (t p s e f : ℕ) (ee : e ≡ getD next (2 * (s - 1)) 0) (ef : f ≡ getD next (2 * (s - 1) + 1) 0) where
+module _ (allow next xs : List ℕ) (t p s e f : ℕ) (ee : e ≡ getD next (rowWords * (s - 1)) 0) (ef : f ≡ getD next (rowWords * (s - 1) + 1) 0) where
   pub meeting-onward : SomeBelow t (Meeting allow xs e f p s) → Onward allow next t (rowsHas xs) p s
   meeting-onward r = let u = r .2 .1 in (r .0, u .0, record { below = r .1; allowed = r .2 .0; moves = rw (ee, ef) at (u .1) }, u .2)
 
   pub onward-meeting : Onward allow next t (rowsHas xs) p s → SomeBelow t (Meeting allow xs e f p s)
   onward-meeting r = let h = r .2 in (r .0, h .below, (h .allowed, (r .1, rw (ee, ef) (h .moves), r .3)))
 
-  pub meets-onward : (p2 c d : ℕ) (m : Bool) → p2 < t → T (rowsHas allow (cell p p2) s) → c ≡ getD xs (2 * p2) 0 → d ≡ getD xs (2 * p2 + 1) 0
+  pub meets-onward : (p2 c d : ℕ) (m : Bool) → p2 < t → T (rowsHas allow (cell p p2) s) → c ≡ getD xs (rowWords * p2) 0 → d ≡ getD xs (rowWords * p2 + 1) 0
       → m ≡ not (each membersMost (λ u. not (held e f u && held c d u))) → m ≡ true → Onward allow next t (rowsHas xs) p s
   meets-onward p2 c d m l a ec ed meets y =
       let is : T m ↔ Common (held e f) (rowsHas xs p2) = rw (ec, ed) at (meet-is e f c d m meets) in

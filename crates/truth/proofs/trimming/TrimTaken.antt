@@ -7,6 +7,7 @@ use mathlib.Core.List.{List}
 use mathlib.Core.Bool.{Bool, not, _&&_, _||_}
 use lib.ListN.{length}
 use lib.Dec.{T, T-not, not-T}
+use Rattle.truth.specs.Sizes.{rowWords}
 use Rattle.sheets.proofs.Tests.{test, and-left, and-right, and-both, or-left, or-right, or-cases}
 use Rattle.truth.specs.inner.Rows.{held, rowsHas}
 use Rattle.truth.specs.inner.Pairs.{Onward, Lasts, Inside}
@@ -14,7 +15,7 @@ use Rattle.truth.specs.inner.Trimmed.{Taken, Moved}
 use Rattle.truth.proofs.tables.TableLaws.{stored, stored-here, stored-other, stored-length}
 
 -- ---- a store in each of two tables
-pub taken : (xs gone : List ℕ) (p a b c d : ℕ) (lost : ℕ → Bool) (hx : 2 * p + 1 < length xs) (hg : 2 * p + 1 < length gone)
+pub taken : (xs gone : List ℕ) (p a b c d : ℕ) (lost : ℕ → Bool) (hx : rowWords * p + 1 < length xs) (hg : rowWords * p + 1 < length gone)
     → ((s : ℕ) → held a b s ≡ (rowsHas xs p s && not (lost s))) → ((s : ℕ) → held c d s ≡ (rowsHas gone p s || lost s))
     → Taken p lost xs gone (stored xs p a b hx) (stored gone p c d hg)
 taken xs gone p a b c d lost hx hg kept more = record {

@@ -7,6 +7,7 @@ use mathlib.Core.Bool.{Bool, true}
 use borrow.Author.Count.{below-more}
 use borrow.Author.Tests.{not-true, not-false}
 use lib.ListN.{length, getD}
+use Rattle.sheets.specs.Format.{chainedMost}
 use Rattle.sheets.specs.Rules.{transitionsOf, total}
 use Rattle.sheets.proofs.Positions.{all-taken, taken-fails}
 use borrow.Author.Needs.{needs}
@@ -17,7 +18,7 @@ abbrev test : List ℕ → ℕ → ℕ → Bool
 test r v q = total r v (transitionsOf r q)
 
 abbrev Inv-loop : tie.InvT-loop
-Inv-loop r v n states k₀ k = (k ≤ n) × (length states ≡ 16) × ((j : ℕ) → j < k → test r v (getD states j 0) ≡ true)
+Inv-loop r v n states k₀ k = (k ≤ n) × (length states ≡ chainedMost) × ((j : ℕ) → j < k → test r v (getD states j 0) ≡ true)
 
 abbrev μ-loop : tie.MeasureT-loop
 μ-loop r v n states k₀ k = n - k

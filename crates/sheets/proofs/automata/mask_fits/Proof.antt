@@ -6,6 +6,7 @@ use Prim.Native.Nat.{_<_}
 use borrow.Author.Tests.{lt-ltb}
 use lib.Pow.{pow-mono}
 use native.Mathlib.Nat.{lt-of-lt-of-le}
+use Rattle.sheets.specs.Format.{wordBits}
 use Rattle.sheets.proofs.BitLaws.{one-shifted}
 use Rattle.sheets.proofs.automata.mask_fits.Statement.{statement}
 use Rattle.sheets.proofs.automata.mask_fits.Tie as tie
@@ -20,7 +21,7 @@ below-power-requires : tie.Need-below-power-requires
 below-power-requires c κs = search needs
 
 returns-2 : tie.Need-returns-2
-returns-2 c = let h : c .before .before .args .v < 16 = omega arith in rw (one-shifted 16 (c .before .before .args .v) h) at (c .below-power .ensures)
+returns-2 c = let h : c .before .before .args .v < wordBits = omega arith in rw (one-shifted wordBits (c .before .before .args .v) h) at (c .below-power .ensures)
 
 pub mask-fits-spec : {M : Type 1} → statement M
 mask-fits-spec = tie.close (tie.spec returns shl-below-power below-power-requires returns-2)

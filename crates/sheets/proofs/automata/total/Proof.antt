@@ -2,6 +2,7 @@
 use mathlib.Core.Path.{_∙_}
 use Prim.Native.Nat.{_-_, _^_}
 use native.Mathlib.Omega.{arith}
+use Rattle.sheets.specs.Format.{wordBits}
 use Rattle.sheets.specs.Rules.{total, transitionsOf}
 use Rattle.sheets.proofs.EachLoops.{Tested, each-starts, test-goes, test-stops, each-ends}
 use Rattle.sheets.proofs.BitLaws.{one-shifted}
@@ -25,7 +26,7 @@ shl-most c = search needs
 loop-holds : tie.Need-loop-holds Inv-loop μ-loop
 loop-holds c =
     let at-start : tie.Start Inv-loop μ-loop = search in
-    each-starts (one-shifted 16 (at-start .args .v) (omega arith))
+    each-starts (one-shifted wordBits (at-start .args .v) (omega arith))
 
 bit-requires : tie.Need-bit-requires Inv-loop μ-loop
 bit-requires c κs = search needs

@@ -7,6 +7,7 @@ use mathlib.Core.List.{List}
 use mathlib.Core.Bool.{_&&_}
 use lib.ListN.{length, getD, length-set}
 use lib.Dec.{ltb}
+use Rattle.sheets.specs.Format.{chainedMost}
 use Rattle.sheets.specs.Words.{bit}
 use Rattle.sheets.specs.Rules.{leads}
 use Rattle.sheets.proofs.Positions.{stored}
@@ -19,7 +20,7 @@ abbrev Row : List ℕ → List ℕ → ℕ → ℕ → ℕ → Type 0
 Row r states n p v = (i : ℕ) → bit v i ≡ (ltb i n && leads r p (getD states i 0))
 
 abbrev Inv-loop : tie.InvT-loop
-Inv-loop r n states rows₀ j₀ rows j = (j ≤ n) × (length rows ≡ 16) × ((k : ℕ) → k < j → Row r states n (getD states k 0) (getD rows k 0))
+Inv-loop r n states rows₀ j₀ rows j = (j ≤ n) × (length rows ≡ chainedMost) × ((k : ℕ) → k < j → Row r states n (getD states k 0) (getD rows k 0))
 
 abbrev μ-loop : tie.MeasureT-loop
 μ-loop r n states rows₀ j₀ rows j = n - j

@@ -4,6 +4,7 @@ use Prim.Native.Nat.{ℕ, _-_, _≤_, _<_}
 use native.Mathlib.Omega.{arith}
 use mathlib.Core.List.{List}
 use lib.ListN.{length, getD, length-set}
+use Rattle.sheets.specs.Format.{chainedMost}
 use Rattle.sheets.specs.Words.{bit}
 use Rattle.sheets.specs.inner.Positions.{inRow, reachedAt}
 use Rattle.sheets.proofs.Positions.{stored}
@@ -16,7 +17,7 @@ abbrev Row : List ℕ → ℕ → ℕ → ℕ → Type 0
 Row rows n j v = (i : ℕ) → bit v i ≡ reachedAt (inRow rows) n j n i
 
 abbrev Inv-loop : tie.InvT-loop
-Inv-loop rows n out₀ p₀ out p = (p ≤ n) × (length out ≡ 16) × ((j : ℕ) → j < p → Row rows n j (getD out j 0))
+Inv-loop rows n out₀ p₀ out p = (p ≤ n) × (length out ≡ chainedMost) × ((j : ℕ) → j < p → Row rows n j (getD out j 0))
 
 abbrev μ-loop : tie.MeasureT-loop
 μ-loop rows n out₀ p₀ out p = n - p

@@ -6,6 +6,7 @@ use native.Mathlib.Omega.{arith}
 use borrow.Author.Count.{below-more}
 use lib.ListN.{length, getD, length-set}
 use lib.Seq.{getD-set-other}
+use Rattle.sheets.specs.Format.{chainedMost}
 use Rattle.sheets.proofs.Positions.{stored}
 use Rattle.sheets.proofs.LeavingChains.{Masked, masked-here, masked-not}
 use borrow.Author.Needs.{needs}
@@ -14,7 +15,7 @@ use Rattle.sheets.proofs.transitions.with_mask.Tie as tie
 
 abbrev Inv-loop : tie.InvT-loop
 Inv-loop n set mask masks₀ k₀ masks k =
-    (k ≤ n) × (length masks ≡ 16) × ((j : ℕ) → j < k → Masked masks₀ set mask j (getD masks j 0)) × ((j : ℕ) → k ≤ j → getD masks j 0 ≡ getD masks₀ j 0)
+    (k ≤ n) × (length masks ≡ chainedMost) × ((j : ℕ) → j < k → Masked masks₀ set mask j (getD masks j 0)) × ((j : ℕ) → k ≤ j → getD masks j 0 ≡ getD masks₀ j 0)
 
 abbrev μ-loop : tie.MeasureT-loop
 μ-loop n set mask masks₀ k₀ masks k = n - k

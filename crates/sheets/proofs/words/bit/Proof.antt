@@ -1,11 +1,12 @@
 use borrow.Author.Needs.{needs}
 use mathlib.Core.Path.{sym}
+use Rattle.sheets.specs.Format.{wordBits}
 use Rattle.sheets.proofs.BitLaws.{bit-read, bit-above}
 use Rattle.sheets.proofs.words.bit.Statement.{statement}
 use Rattle.sheets.proofs.words.bit.Tie as tie
 
 returns : tie.Need-returns
-returns c = sym (bit-above 16 _ _ (c .before .fits .x .fits) (c .if1 .taken))
+returns c = sym (bit-above wordBits _ _ (c .before .fits .x .fits) (c .if1 .taken))
 
 shr-result : tie.Need-shr-result
 shr-result c = search needs

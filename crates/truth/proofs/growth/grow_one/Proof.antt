@@ -6,6 +6,7 @@ use mathlib.Core.Bool.{not, _&&_}
 use mathlib.Core.List.{List}
 use lib.ListN.{length}
 use lib.Dec.{eqb}
+use Rattle.truth.specs.Sizes.{rowWords}
 use Rattle.truth.specs.inner.Rows.{rowHas, rowsHas}
 use Rattle.truth.specs.inner.Growing.{TimePut, Spread, enters}
 use Rattle.truth.proofs.tables.TableLaws.{stored-length, stored-more}
@@ -84,8 +85,8 @@ added c times put =
     let at-start : tie.Start = search in let after-load : tie.After-load = search in let after-store : tie.After-store = search in
     let d : tie.After-difference = search in let a = at-start .args in
     let here = after-load .load .ensures in
-    let long : 2 * a .p + 1 < length (a .ys .now) = omega arith in
-    let long′ : 2 * a .p + 1 < length (a .new .now) = omega arith in
+    let long : rowWords * a .p + 1 < length (a .ys .now) = omega arith in
+    let long′ : rowWords * a .p + 1 < length (a .new .now) = omega arith in
     let e = after-store .store .ensures in
     let f = c .store2 .ensures in
     let new = c .before .before .before .load3 .ensures in

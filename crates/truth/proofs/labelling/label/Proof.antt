@@ -8,7 +8,7 @@ use Rattle.sheets.specs.Rules.{lent, lines, ruleRefusal}
 use Rattle.sheets.proofs.Counting.{number-most}
 use Rattle.sheets.proofs.AcceptedMachine.{nodes-sized}
 use Rattle.sheets.proofs.AcceptedRule.{some-line}
-use Rattle.truth.specs.Sizes.{membersMost, rowWordBits}
+use Rattle.truth.specs.Sizes.{rowWords, membersMost, rowWordBits}
 use Rattle.truth.specs.inner.Rows.{rowHas}
 use Rattle.truth.proofs.labelling.LabelTable.{machine-accepted, rules-accepted, space-enough}
 use Rattle.truth.proofs.rows.RowLaws.{tally-number}
@@ -22,7 +22,7 @@ start c = search
 
 -- where no question refuses, both sheets are accepted, and the space is enough
 accepted : (c : tie.Else1)
-    → (machineRefusal (start c .args .m .now) ≡ 0) × ((ruleRefusal lent (start c .args .r .now) ≡ 0) × (2 * lines (start c .args .r .now) ≤ length (start c .args .rows .now)))
+    → (machineRefusal (start c .args .m .now) ≡ 0) × ((ruleRefusal lent (start c .args .r .now) ≡ 0) × (rowWords * lines (start c .args .r .now) ≤ length (start c .args .rows .now)))
 accepted c =
     let a = start c .args in
     let e = sym (c .if1 .left) ∙ c .before .label-refusal .ensures in
@@ -81,7 +81,7 @@ returns-2 c =
     let after-line-row : tie.After-line-row = search in let none : tie.Else1 = search in let a = start none .args in
     let labelled : tie.After-label-lines = search in let lines = labelled .before .before .lines in
     let row = after-line-row .line-row in
-    let i = 2 * (lines .result - 1) in
+    let i = rowWords * (lines .result - 1) in
     let below = after-line-row .before .before .slice-known2 .given in
     let lo : row .result .low < 2 ^ rowWordBits = omega (arith, row .ensures .0, below i) in
     let hi : row .result .high < 2 ^ rowWordBits = omega (arith, row .ensures .1, below (i + 1)) in

@@ -3,6 +3,7 @@ use mathlib.Core.Path.{sym}
 use Prim.Native.Nat.{_*_}
 use native.Mathlib.Omega.{arith}
 use borrow.Author.Tests.{le-leb, lt-leb}
+use Rattle.truth.specs.Sizes.{rowWords}
 use Rattle.sheets.specs.Rules.{lines}
 use Rattle.sheets.proofs.Questions.{asked}
 use Rattle.sheets.proofs.SheetTable.{sheets-numbered}
@@ -30,14 +31,14 @@ returns-2 : tie.Need-returns-2
 unfolding labelQuestions
 returns-2 c =
     let at-start : tie.Start = search in let a = at-start .args in
-    let little = sym (lt-leb (2 * lines (a .r .now)) (a .space) (omega (arith, c .before .lines .ensures))) in
+    let little = sym (lt-leb (rowWords * lines (a .r .now)) (a .space) (omega (arith, c .before .lines .ensures))) in
     search (asked, sheets-numbered)
 
 returns-3 : tie.Need-returns-3
 unfolding labelQuestions
 returns-3 c =
     let at-start : tie.Start = search in let a = at-start .args in
-    let enough = sym (le-leb (2 * lines (a .r .now)) (a .space) (omega (arith, c .before .lines .ensures))) in
+    let enough = sym (le-leb (rowWords * lines (a .r .now)) (a .space) (omega (arith, c .before .lines .ensures))) in
     search (asked, sheets-numbered)
 
 pub label-refusal-spec : {M : Type 1} → statement M

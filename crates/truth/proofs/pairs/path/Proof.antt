@@ -36,6 +36,7 @@ use denote.Enum.Laws as EL
 use denote.Struct.Laws as LL
 use denote.Triple.Spec.{Meets}
 use denote.Triple.Table.{entered, cited}
+use Rattle.truth.specs.Sizes.{pairsMost}
 use Rattle.truth.specs.PathAnswers.{lengthOf}
 use Rattle.truth.specs.inner.Made.{MadeFor}
 use Rattle.truth.specs.PathPairs.{pairNodes, pairStates}
@@ -119,7 +120,7 @@ module _ {M : Type 1} (𝓤 : URA M) (H : Heap 𝓤) (A : Atoms 𝓤) (mem : Mem
           ),
         ),
       ) (id⊢ 𝓤 (emp 𝓤))
-      (λ r zs. MadeFor (a .0 .now) (a .1 .0 .now) (a .1 .1 .0) (a .1 .1 .1 .0) (min (length ys) 2048) (r .nodes) (r .states) (r .answer)) (λ r zs. id⊢ 𝓤 _) refl
+      (λ r zs. MadeFor (a .0 .now) (a .1 .0 .now) (a .1 .1 .0) (a .1 .1 .1 .0) (min (length ys) pairsMost) (r .nodes) (r .states) (r .answer)) (λ r zs. id⊢ 𝓤 _) refl
       (and-then ! (local-of ! refl) (and-then ! (local-of ! refl) (and-then ! (local-of ! refl) (and-then ! (local-of ! refl) (and-then ! (local-of ! refl) (no-more !))))))
       (λ w r _ made-for is.
       let ns = nodes-is r w is in
@@ -153,11 +154,11 @@ module _ {M : Type 1} (𝓤 : URA M) (H : Heap 𝓤) (A : Atoms 𝓤) (mem : Mem
       lft-new ! tt (λ ν. move ! (1 ∷ []) $ use1 W (later (some (λ (δ : GName).
       ‵ (ShrSlice (named 1) (ν ∷ []) u8 .own (record { ptr = (l, 0); name = δ; now = r .nodes }) (sliceVal (l, 0) (length (r .nodes)) ∷ []))
       ⊛ ‵ (Lent w8 (ν ∷ []) (r .nodes) l 0))))
-      (lends-array 𝓤 H A W w8 2048 (r .nodes) ns l 0 (ν ∷ []) (named 1) (array-room w8 (lit< tt, lit< tt) (r .nodes) ns)) $ await ! tt $ pick ! (λ δ. split ! $
+      (lends-array 𝓤 H A W w8 pairsMost (r .nodes) ns l 0 (ν ∷ []) (named 1) (array-room w8 (lit< tt, lit< tt) (r .nodes) ns)) $ await ! tt $ pick ! (λ δ. split ! $
       lft-new ! tt (λ μ. move ! (4 ∷ []) $ use1 W (later (some (λ (ε : GName).
       ‵ (ShrSlice (named 2) (μ ∷ []) u16 .own (record { ptr = (l, 2054); name = ε; now = r .states }) (sliceVal (l, 2054) (length (r .states)) ∷ []))
       ⊛ ‵ (Lent w16 (μ ∷ []) (r .states) l 2054))))
-      (lends-array 𝓤 H A W w16 2048 (r .states) ss l 2054 (μ ∷ []) (named 2) (array-room w16 (lit< tt, lit< tt) (r .states) ss)) $ await ! tt $ pick ! (λ ε. split ! $
+      (lends-array 𝓤 H A W w16 pairsMost (r .states) ss l 2054 (μ ∷ []) (named 2) (array-room w16 (lit< tt, lit< tt) (r .states) ss)) $ await ! tt $ pick ! (λ ε. split ! $
       -- [states'; lent; μ; nodes'; lent; ν; κm; κr; κ; list's; nothing; the locals]
       move ! (8 ∷ 5 ∷ 2 ∷ 9 ∷ 3 ∷ 0 ∷ []) $ turn ! 11 $
       calls-on ! (fmOf 𝓤 H (W .laws) 𝓣) 38 write.ended (write.clauses 𝓤 H A mem run) known-write (
@@ -177,9 +178,9 @@ module _ {M : Type 1} (𝓤 : URA M) (H : Heap 𝓤) (A : Atoms 𝓤) (mem : Mem
       turn ! 38 $ move ! (3 ∷ []) $ fsplit ! $ move ! (1 ∷ []) $ feqL ! (λ size.
       -- [the last list; κ; ν; μ; states' lent; nodes' lent; κm; κr; nothing; the locals]
       move ! (2 ∷ []) $ lft-end ! tt $ move ! (0 ∷ 5 ∷ []) $
-      use2 W (later (‵ (nodes-cell 𝓤 H A r l))) (array-back 𝓤 H A W w8 2048 (r .nodes) ns l 0 (ν ∷ [])) $ await ! tt $
+      use2 W (later (‵ (nodes-cell 𝓤 H A r l))) (array-back 𝓤 H A W w8 pairsMost (r .nodes) ns l 0 (ν ∷ [])) $ await ! tt $
       move ! (3 ∷ []) $ lft-end ! tt $ move ! (0 ∷ 4 ∷ []) $
-      use2 W (later (‵ (states-cell 𝓤 H A r l))) (array-back 𝓤 H A W w16 2048 (r .states) ss l 2054 (μ ∷ [])) $ await ! tt $
+      use2 W (later (‵ (states-cell 𝓤 H A r l))) (array-back 𝓤 H A W w16 pairsMost (r .states) ss l 2054 (μ ∷ [])) $ await ! tt $
       -- [states; nodes; the last list; κ; κm; κr; nothing; the locals, the way back in the place of _6]
       move ! (1 ∷ 0 ∷ []) $ join ! $ restore ! 17 (‵ (whole-cell 𝓤 H A r l)) (together 𝓤 H A r l) $ turn ! 5 $
       sets ! (of-opd ! (local-of ! refl)) refl (answer-typed (r .answer) an) $

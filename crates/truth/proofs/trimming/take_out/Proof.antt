@@ -4,6 +4,7 @@ use Prim.Native.Nat.{ℕ, _+_, _*_, _<_}
 use native.Mathlib.Omega.{arith}
 use mathlib.Core.Bool.{not, _&&_, _||_}
 use lib.ListN.{length}
+use Rattle.truth.specs.Sizes.{rowWords}
 use Rattle.truth.specs.inner.Rows.{rowHas, rowsHas}
 use Rattle.truth.proofs.trimming.TrimTaken.{taken}
 use Rattle.truth.proofs.trimming.take_out.Statement.{statement}
@@ -38,8 +39,8 @@ returns c =
     let kept : (s : ℕ) → rowHas (d .result) s ≡ (rowsHas (a .xs .now) (a .p) s && not (rowHas (a .lost) s)) = λ s. rw (row .0, row .1) at (d .ensures s) in
     let more : (s : ℕ) → rowHas (u .result) s ≡ (rowsHas (a .gone .now) (a .p) s || rowHas (a .lost) s) = λ s. rw (others .0, others .1) at (u .ensures s) in
     let pre = start .pre in
-    let lx : 2 * a .p + 1 < length (a .xs .now) = omega (arith, pre .0, pre .1) in
-    let lg : 2 * a .p + 1 < length (a .gone .now) = omega (arith, pre .0, pre .2) in
+    let lx : rowWords * a .p + 1 < length (a .xs .now) = omega (arith, pre .0, pre .1) in
+    let lg : rowWords * a .p + 1 < length (a .gone .now) = omega (arith, pre .0, pre .2) in
     rw (after-store .store .ensures, c .store2 .ensures) (taken (a .xs .now) (a .gone .now) (a .p) _ _ _ _ (rowHas (a .lost)) lx lg kept more)
 
 pub take-out-spec : {M : Type 1} → statement M
