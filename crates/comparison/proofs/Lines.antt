@@ -5,7 +5,7 @@ use native.Mathlib.Omega.{arith}
 use mathlib.Core.List.{List, [], _∷_, _++_, append-assoc, append-nil}
 use lib.ListN.{length, getD, replicate, length-append, List·getD-append}
 use lib.Seq.{getD-append-add}
-use Rattle.truth.specs.Passed.{Line, signal, negation, either, somePath, lifted, lines, lineWord, line, lineOf, lineWords, operationPlace, operandPlace, nextHead, word, recordWord}
+use Rattle.truth.specs.Passed.{Line, signal, negation, either, somePath, lifted, lines, lineWord, line, lineOf, lineWords, operationPlace, operandPlace, argumentPlace, nextHead, word, recordWord}
 use Rattle.comparison.specs.Comparison.{ruleHead}
 use Rattle.comparison.specs.inner.Lines.{Entry, sig, neg, alt, next, words, writtenWords, sheet, entry}
 
@@ -78,7 +78,7 @@ module _ (ls : List Entry) (j : ℕ) where
       ∙ word-of-line ls (j - 1) k h
       ∙ ap (λ (x : Entry). getD (words x) k 0) e
 
-  line-by : (l : Entry) → entry ls j ≡ l → line (lifted lineWords) (sheet ls) j ≡ decoded (λ i. lineWord (lifted lineWords) (sheet ls) j (operandPlace + 1 + i)) l
+  line-by : (l : Entry) → entry ls j ≡ l → line (lifted lineWords) (sheet ls) j ≡ decoded (λ i. lineWord (lifted lineWords) (sheet ls) j (argumentPlace i)) l
   unfolding line decoded words
   line-by (sig i) e =
       ap (lineOf (lifted lineWords) (sheet ls) j) (word-is (sig i) e operationPlace (omega arith)) ∙ ap signal (word-is (sig i) e operandPlace (omega arith))
@@ -89,13 +89,13 @@ module _ (ls : List Entry) (j : ℕ) where
       ∙ ap₂ either (word-is (alt i k) e operandPlace (omega arith)) (word-is (alt i k) e (operandPlace + 1) (omega arith))
   line-by (next i) e =
       ap (lineOf (lifted lineWords) (sheet ls) j) (word-is (next i) e operationPlace (omega arith))
-      ∙ ap (λ (x : ℕ). somePath x (λ k. lineWord (lifted lineWords) (sheet ls) j (operandPlace + 1 + k))) (word-is (next i) e operandPlace (omega arith))
+      ∙ ap (λ (x : ℕ). somePath x (λ k. lineWord (lifted lineWords) (sheet ls) j (argumentPlace k))) (word-is (next i) e operandPlace (omega arith))
 
   -- line j of the sheet is line j of the list
-  pub line-is : line (lifted lineWords) (sheet ls) j ≡ decoded (λ i. lineWord (lifted lineWords) (sheet ls) j (operandPlace + 1 + i)) (entry ls j)
+  pub line-is : line (lifted lineWords) (sheet ls) j ≡ decoded (λ i. lineWord (lifted lineWords) (sheet ls) j (argumentPlace i)) (entry ls j)
   line-is = line-by (entry ls j) refl
 
   -- the argument of a path line
-  pub argument-is : (i : ℕ) → entry ls j ≡ next i → lineWord (lifted lineWords) (sheet ls) j (operandPlace + 1) ≡ i
+  pub argument-is : (i : ℕ) → entry ls j ≡ next i → lineWord (lifted lineWords) (sheet ls) j (argumentPlace 0) ≡ i
   unfolding words
-  argument-is i e = word-is (next i) e (operandPlace + 1) (omega arith)
+  argument-is i e = word-is (next i) e (argumentPlace 0) (omega arith)

@@ -6,7 +6,7 @@ use mathlib.Core.List.{List, [], _∷_}
 use mathlib.Core.Bool.{Bool, _&&_, and-true}
 use lib.ListN.{length, getD}
 use lib.Dec.{T, leb, le→leb, eqb, eqb-refl}
-use Rattle.truth.specs.Passed.{lent, lifted, within, each, variables, automata, lineWord, lineFits, pathFits, refersAbove, unused, line, ruleRefusal, signalMost, overSignals, q7, q8, q9, q10, q11, q12, q13, q14, q15, signalsMost, linesMost, ruleHeader, lineWords, operationPlace, operandPlace, signalOperation, negationOperation, eitherOperation, somePathOperation, nextHead, word, recordWord, chain}
+use Rattle.truth.specs.Passed.{lent, lifted, within, each, variables, automata, lineWord, lineFits, pathFits, refersAbove, unused, line, ruleRefusal, signalMost, overSignals, q7, q8, q9, q10, q11, q12, q13, q14, q15, signalsMost, linesMost, ruleHeader, lineWords, operationPlace, operandPlace, argumentPlace, signalOperation, negationOperation, eitherOperation, somePathOperation, nextHead, word, recordWord, chain}
 use Rattle.comparison.specs.Comparison.{Rule}
 use Rattle.truth.proofs.Passed.{and-both, within-in, each-in, rule-accepted, fifteen-same, over-same}
 use Rattle.comparison.specs.inner.Lines.{Entry, sig, neg, alt, next, words, sheet, entry, Refers, Downward}
@@ -28,13 +28,13 @@ module _ (ls : List Entry) (j : ℕ) where
 
   path-fits : ℕ → Bool
   path-fits x = within 1 (automata (sheet ls)) x && refersAbove (lifted lineWords) (sheet ls) j operandPlace (variables (sheet ls) x)
-      && unused (lifted lineWords) (sheet ls) j (operandPlace + 1 + variables (sheet ls) x)
+      && unused (lifted lineWords) (sheet ls) j (argumentPlace (variables (sheet ls) x))
 
   next-fits : (i : ℕ) → entry ls j ≡ next i → 1 ≤ i → i < j → T (path-fits 1)
   unfolding path-fits recordWord refersAbove sheet words
   next-fits i e lo hi =
-      and-both (refersAbove (lifted lineWords) (sheet ls) j operandPlace 1) (unused (lifted lineWords) (sheet ls) j (operandPlace + 1 + 1)) (above-word (next i) e (operandPlace + 1) (omega arith) lo hi)
-      (unused-is (next i) e (operandPlace + 1 + 1) (omega arith) (padded (somePathOperation ∷ 1 ∷ i ∷ []) 3))
+      and-both (refersAbove (lifted lineWords) (sheet ls) j operandPlace 1) (unused (lifted lineWords) (sheet ls) j (argumentPlace 1)) (above-word (next i) e (argumentPlace 0) (omega arith) lo hi)
+      (unused-is (next i) e (argumentPlace 1) (omega arith) (padded (somePathOperation ∷ 1 ∷ i ∷ []) 3))
 
   -- with the operation written out
   fits-by : (a : ℕ) → a ≤ signalsMost → (l : Entry) → entry ls j ≡ l → Refers a j l → T (lineFits (lifted lineWords) (sheet ls) j (getD (words l) operationPlace 0))

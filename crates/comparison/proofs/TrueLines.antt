@@ -1,12 +1,12 @@
 -- The truth of each written line at a node, by the truths of the lines that it refers to.
 use mathlib.Core.Path.{_≡_, refl}
 use mathlib.Core.Logic.{_⊎_, _↔_, Iff·rfl, Iff·trans, Iff·not}
-use Prim.Native.Nat.{ℕ, _+_, _≤_, _<_}
+use Prim.Native.Nat.{ℕ, _≤_, _<_}
 use native.Mathlib.Omega.{arith}
 use mathlib.Core.List.{List}
 use lib.ListN.{length}
 use lib.Dec.{T}
-use Rattle.truth.specs.Passed.{Kripke, kripke, nodes, automaton, lineWord, lifted, machineRefusal, lineWords, operandPlace}
+use Rattle.truth.specs.Passed.{Kripke, kripke, nodes, automaton, lineWord, lifted, machineRefusal, lineWords, argumentPlace}
 use Rattle.truth.specs.Truth.{Truths, Means}
 use Rattle.truth.proofs.Passed.{sum-iff, edge-stays}
 use Rattle.truth.proofs.Recursion.{truth-recursion}
@@ -41,14 +41,14 @@ module _ (M : List ℕ) (ok : machineRefusal M ≡ 0) (a j : ℕ) (P Q : Truths)
 module _ (M : List ℕ) (ok : machineRefusal M ≡ 0) (a : ℕ) (ls : List Entry) (down : Downward a ls)
     (j : ℕ) (l : 1 ≤ j) (h : j ≤ length ls) (s : ℕ) (lo : 1 ≤ s) (hi : s ≤ nodes M) where
   means-by : (x : Entry) → entry ls j ≡ x → Refers a j x
-      → Means (kripke M) (automaton (sheet ls)) (TrueIn M ls) (decoded (λ i. lineWord (lifted lineWords) (sheet ls) j (operandPlace + 1 + i)) x) s
+      → Means (kripke M) (automaton (sheet ls)) (TrueIn M ls) (decoded (λ i. lineWord (lifted lineWords) (sheet ls) j (argumentPlace i)) x) s
       ↔ Says (kripke M) (TrueIn M ls) x s
   unfolding Means decoded Says Refers
   means-by (sig i) e r = Iff·rfl
   means-by (neg i) e r = Iff·rfl
   means-by (alt i k) e r = Iff·rfl
   means-by (next i) e r =
-      let arg : ℕ → ℕ = λ k. lineWord (lifted lineWords) (sheet ls) j (operandPlace + 1 + k) in
+      let arg : ℕ → ℕ = λ k. lineWord (lifted lineWords) (sheet ls) j (argumentPlace k) in
       let q : arg 0 ≡ i = argument-is ls j i e in
       let d : (u : ℕ) → 1 ≤ u → u ≤ nodes M → Dec (TrueIn M ls (arg 0) u) = λ u.
       truth-decided (lifted lineWords) M (sheet ls) ok (accepted a ls down (omega arith)) (arg 0) u (omega arith) (omega (arith, lines-are ls)) in

@@ -1,6 +1,6 @@
 // The comparison: its questions, its answer, and the rule that tells the two machines apart.
 ghost use mathlib.Core.Path.{_≡_};
-ghost use Prim.Native.Nat.{ℕ, _+_, _-_, _*_, _<_, _≤_};
+ghost use Prim.Native.Nat.{ℕ, _+_, _*_, _<_, _≤_};
 ghost use mathlib.Core.Bool.{not, _&&_};
 ghost use mathlib.Core.List.{List, _++_};
 ghost use lib.ListN.{length, drop};

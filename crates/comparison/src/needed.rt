@@ -2,7 +2,7 @@
 ghost use mathlib.Core.Path.{_≡_};
 ghost use mathlib.Core.Logic.{_⊎_};
 ghost use mathlib.Core.List.{List, [], _∷_};
-ghost use Prim.Native.Nat.{ℕ, _+_, _-_, _*_, _<_, _≤_};
+ghost use Prim.Native.Nat.{ℕ, _-_, _<_, _≤_};
 ghost use lib.ListN.{length, getD, set};
 ghost use Rattle.comparison.specs.inner.Sizes.{writtenSpace, writtenMost, linePlaces};
 ghost use Rattle.comparison.specs.inner.Lines.{Entry, entry, Downward, HoldsLines, Adds};

@@ -7,9 +7,9 @@ use mathlib.Core.List.{List, map}
 use mathlib.Core.Bool.{Bool, not, _&&_}
 use lib.ListN.{length, getD}
 use lib.Dec.{T, not-T, leb, leb→le, ltb, eqb, eqb→eq}
-use Rattle.sheets.specs.Format.{ruleHeader, nextStatePlace, operationPlace}
+use Rattle.sheets.specs.Format.{ruleHeader, operationPlace}
 use Rattle.sheets.specs.Words.{bit, allOf, member}
-use Rattle.sheets.specs.Rules.{Form, states, automata, variables, initial, statesOf, transitions, transitionsOf, transitionTarget, mask, stateWord, automaton, leads, transitionsFit, distinct, fits, unmixed, lines, lineWord, lineFits, ruleRefusal, q7, q9, automatonFits, q12, q14, q15}
+use Rattle.sheets.specs.Rules.{Form, states, automata, variables, initial, statesOf, transitions, transitionsOf, transitionTarget, mask, nextState, automaton, leads, transitionsFit, distinct, fits, unmixed, lines, lineWord, lineFits, ruleRefusal, q7, q9, automatonFits, q12, q14, q15}
 use Rattle.sheets.proofs.Tests.{and-left, and-right, and-both}
 use Rattle.sheets.proofs.Search.{within-at, each-at, any-at, any-in, all-at}
 use Rattle.sheets.proofs.Bits.{no-bit}
@@ -40,11 +40,11 @@ module _ (F : Form) (R : List ℕ) (accepted : ruleRefusal F R ≡ 0) where
 
     -- its initial state is among its states
     pub initial-on : T (member (initial R x) (statesOf R x))
-    initial-on = let h = initial-in in chain-first (states R) (λ q. stateWord R q nextStatePlace) (initial R x) (omega arith) (h .0)
+    initial-on = let h = initial-in in chain-first (states R) (nextState R) (initial R x) (omega arith) (h .0)
 
     -- which is the first on its chain
     pub first-state : getD (statesOf R x) 0 0 ≡ initial R x
-    first-state = let h = initial-in in chain-head (states R) (λ q. stateWord R q nextStatePlace) (initial R x) (omega arith) (h .0)
+    first-state = let h = initial-in in chain-head (states R) (nextState R) (initial R x) (omega arith) (h .0)
 
     -- it stays on them, along edges with nonzero masks
     edge-fits : (q y : ℕ) → T (member q (statesOf R x)) → T (member y (transitionsOf R q)) → T (member (transitionTarget R y) (statesOf R x))

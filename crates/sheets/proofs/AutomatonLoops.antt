@@ -50,7 +50,7 @@ module _ (R : List ℕ) (x : ℕ) {n : ℕ} (counted : n ≡ length (statesOf R 
   unfolding automatonFits fits
   unfit-if-many h = rw (lt-leb (length (statesOf R x)) chainedMost (rw counted at h))
 
--- the list that was read, of at most 16
+-- the list that was read, of as many as one automaton may have
 module _ (ys : List ℕ) (all : Numbers) (listed : Listed ys all) (few : all .count ≤ chainedMost) where
   pub listed-at : (k : ℕ) → getD (all .numbers) k 0 ≡ getD ys k 0
   listed-at k =
@@ -92,23 +92,23 @@ module _ (p : ℕ → Bool) (f x : ℕ) (next : ℕ → ℕ) (all : Numbers) (li
     pub block-left : chainedMost < f
     block-left = omega (arith, listed .count, rest-most (λ y k. next y) 3 f x)
 
-    block-more : allOf (chain f next x) p ≡ (allOf (take chainedMost (all .numbers)) p && allOf (chain (f - chainedMost) next (next (getD (all .numbers) 15 0))) p)
+    block-more : allOf (chain f next x) p ≡ (allOf (take chainedMost (all .numbers)) p && allOf (chain (f - chainedMost) next (next (getD (all .numbers) (chainedMost - 1) 0))) p)
     block-more =
         let long : chainedMost < length (chain f next x) = omega (arith, listed .count) in
         let size : length (take chainedMost (all .numbers)) ≡ chainedMost = length-take-le chainedMost (all .numbers) (omega (arith, listed .room)) in
         let same : take chainedMost (all .numbers) ≡ take chainedMost (chain f next x) =
         ext-getD 0 (take chainedMost (all .numbers)) (take chainedMost (chain f next x)) (size ∙ sym (length-take-le chainedMost (chain f next x) (omega arith)))
         (λ i l. let m : i < chainedMost = omega (arith, size) in getD-take chainedMost (all .numbers) i 0 m ∙ listed .each i m ∙ sym (getD-take chainedMost (chain f next x) i 0 m)) in
-        rw (same, listed .each 15 (omega arith), ← (chain-after f next x 15 (omega arith))) (all-split p chainedMost (chain f next x))
+        rw (same, listed .each (chainedMost - 1) (omega arith), ← (chain-after f next x (chainedMost - 1) (omega arith))) (all-split p chainedMost (chain f next x))
 
     pub block-fails : {b : Bool} → b ≡ allOf (take chainedMost (all .numbers)) p → b ≡ false → allOf (chain f next x) p ≡ false
     block-fails e f = block-more ∙ rw (sym e ∙ f)
 
-    pub block-passes : {b : Bool} {y : ℕ} → b ≡ allOf (take chainedMost (all .numbers)) p → b ≡ true → y ≡ next (getD (all .numbers) 15 0) → allOf (chain f next x) p ≡ allOf (chain (f - chainedMost) next y) p
+    pub block-passes : {b : Bool} {y : ℕ} → b ≡ allOf (take chainedMost (all .numbers)) p → b ≡ true → y ≡ next (getD (all .numbers) (chainedMost - 1) 0) → allOf (chain f next x) p ≡ allOf (chain (f - chainedMost) next y) p
     block-passes e t ey = block-more ∙ rw (sym e ∙ t, ey)
 
 -- the variables that question 9 has bounded
 pub few-variables : (R : List ℕ) (x : ℕ) → T (q9 lent R) → 1 ≤ x → x ≤ automata R → variables R x ≤ variablesMost
 unfolding q9 fits
 few-variables R x t lo hi =
-    leb→le (variables R x) 4 (and-left (fits (most variablesMost) (variables R x)) (within 1 (states R) (initial R x)) (each-at (automata R) _ t x lo hi))
+    leb→le (variables R x) variablesMost (and-left (fits (most variablesMost) (variables R x)) (within 1 (states R) (initial R x)) (each-at (automata R) _ t x lo hi))

@@ -6,7 +6,7 @@ use mathlib.Core.List.{List}
 use mathlib.Core.Bool.{_&&_}
 use lib.Dec.{T, leb→le, le→leb}
 use Rattle.sheets.specs.Structures.{Automaton, Line, signal, negation, either, somePath, somePathNot, malformed}
-use Rattle.sheets.specs.Format.{signalsMost, operationPlace, operandPlace}
+use Rattle.sheets.specs.Format.{signalsMost, operationPlace, operandPlace, argumentPlace}
 use Rattle.sheets.specs.Words.{within}
 use Rattle.sheets.specs.Rules.{Form, automata, automaton, variables, lines, line, lineOf, lineWord, lineFits, pathFits, refersAbove, unused, ruleRefusal, signalMost, overSignals}
 use Rattle.sheets.proofs.Tests.{and-left, and-right}
@@ -31,12 +31,12 @@ module _ (F : Form) (R : List ℕ) (j : ℕ) where
       (r .0, omega arith)
 
   -- a path line: its automaton, and its arguments
-  path-formed : (x : ℕ) → T (within 1 (automata R) x && refersAbove F R j operandPlace (variables R x) && unused F R j (operandPlace + 1 + variables R x))
-      → ((1 ≤ x) × (x ≤ automata R)) × ((i : ℕ) → i < variables R x → (1 ≤ lineWord F R j (operandPlace + 1 + i)) × (lineWord F R j (operandPlace + 1 + i) < j))
+  path-formed : (x : ℕ) → T (within 1 (automata R) x && refersAbove F R j operandPlace (variables R x) && unused F R j (argumentPlace (variables R x)))
+      → ((1 ≤ x) × (x ≤ automata R)) × ((i : ℕ) → i < variables R x → (1 ≤ lineWord F R j (argumentPlace i)) × (lineWord F R j (argumentPlace i) < j))
   path-formed x t = (
     within-at 1 (automata R) x (search (and-left, t)),
     λ i l.
-        let e : operandPlace + suc i ≡ operandPlace + 1 + i = omega arith in
+        let e : operandPlace + suc i ≡ argumentPlace i = omega arith in
         rw e at (refers operandPlace (variables R x) (search (and-left, and-right, t)) (suc i) (omega arith) l),
   )
 

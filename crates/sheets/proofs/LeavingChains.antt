@@ -10,11 +10,11 @@ use lib.ListN.{length, getD, take}
 use lib.Seq.{length-take-le, getD-take}
 use lib.Bits.{bitAnd, bitOr}
 use lib.Dec.{T, leb, ltb, eqb, eqb→eq, ltb→lt}
-use Rattle.sheets.specs.Format.{transitionWords, firstTransitionPlace, transitionsFrom, chainedMost}
+use Rattle.sheets.specs.Format.{transitionWords, transitionsFrom, chainedMost}
 use Rattle.sheets.specs.Words.{bit, indicator, howMany, allOf, anyOf, member}
 use Rattle.sheets.specs.inner.Positions.{someBelow, standsAt}
 use Rattle.sheets.specs.Records.{recordWord}
-use Rattle.sheets.specs.Rules.{automata, states, transitions, stateWord, transitionWord, transitionsOf, transitionTarget, mask, distinct, transitionsFit, leads}
+use Rattle.sheets.specs.Rules.{automata, states, transitions, firstTransition, transitionWord, transitionsOf, transitionTarget, mask, distinct, transitionsFit, leads}
 use Rattle.sheets.specs.inner.Gathered.{records, Along}
 use Rattle.sheets.specs.inner.Transitions.{Left, LeavingTaken, Leaves}
 use Rattle.sheets.specs.declared.words.Step.{Step}
@@ -260,28 +260,28 @@ module _ (read : ℕ → ℕ → ℕ) (left x : ℕ) (a r : Leaving) (few : a .n
         sym (fit-none (a .states) (a .n) few (λ y. read y 0) (bit (a .met)) all no-met ∙ end .1 ∙ and-true (r .fits))
 
 -- from no transition, along those out of state q
-pub leaves-along : (R : List ℕ) (q base x left : ℕ) (a r : Leaving) → base ≡ transitionsFrom (automata R) (states R) → x ≡ stateWord R q firstTransitionPlace → left ≡ transitions R → a .n ≤ chainedMost → length (a .states) ≡ chainedMost
+pub leaves-along : (R : List ℕ) (q base x left : ℕ) (a r : Leaving) → base ≡ transitionsFrom (automata R) (states R) → x ≡ firstTransition R q → left ≡ transitions R → a .n ≤ chainedMost → length (a .states) ≡ chainedMost
     → ((k : ℕ) → getD (a .masks) k 0 ≡ 0) → a .met ≡ 0 → a .led ≡ 0 → a .once ≡ 0 → a .twice ≡ 0 → a .fits ≡ true
     → Along LeavingTaken (records (recordWord R base transitionWords) transitionWords left x) a r → Leaves R (a .states) (a .n) q r
 unfolding recordWord transitionsFit leads
 leaves-along R q base x left a r eb ex el few room no-masks no-met no-led no-once no-twice fresh along =
     let read = transitionWord R in
-    let ways : Along LeavingTaken (records read transitionWords (transitions R) (stateWord R q firstTransitionPlace)) a r = rw (eb, ex, el) at along in
+    let ways : Along LeavingTaken (records read transitionWords (transitions R) (firstTransition R q)) a r = rw (eb, ex, el) at along in
     let ys = transitionsOf R q in
     let count : (w : ℕ) → (bit (r .once) w ≡ leb 1 (howMany ys (λ y. bit (mask R y) w))) × (bit (r .twice) w ≡ leb 2 (howMany ys (λ y. bit (mask R y) w))) =
-    λ w. counted-along read (transitions R) (stateWord R q firstTransitionPlace) a r few ways w (rw no-once (bit-none w)) (rw no-twice (bit-none w)) in
+    λ w. counted-along read (transitions R) (firstTransition R q) a r few ways w (rw no-once (bit-none w)) (rw no-twice (bit-none w)) in
     record {
       fitting = λ v.
           rw (
-            fits-along read (transitions R) (stateWord R q firstTransitionPlace) a r few ways (λ k. rw no-met (bit-none k)) fresh,
-            once-along read (transitions R) (stateWord R q firstTransitionPlace) a r few ways (2 ^ v),
+            fits-along read (transitions R) (firstTransition R q) a r few ways (λ k. rw no-met (bit-none k)) fresh,
+            once-along read (transitions R) (firstTransition R q) a r few ways (2 ^ v),
             no-once,
             lt-ltb 0 (2 ^ (2 ^ v)) (pow-pos (2 ^ v)),
           ) (fitted (λ y. ltb (mask R y) (2 ^ (2 ^ v))) (λ y. on (a .states) (a .n) few (transitionTarget R y)) (λ y. member (transitionTarget R y) (take (a .n) (a .states)))
           (λ y. on-member (a .states) (a .n) few (omega (arith, room)) (transitionTarget R y)) ys (distinct (map (transitionTarget R) ys)));
       some = λ w. count w .0;
       several = λ w. count w .1;
-      leading = λ k. led-along read (transitions R) (stateWord R q firstTransitionPlace) a r few ways k
+      leading = λ k. led-along read (transitions R) (firstTransition R q) a r few ways k
           ∙ rw (no-led, bit-none k) (any-guarded (ltb k (a .n)) (λ y. not (eqb (mask R y) 0)) (λ y. eqb (transitionTarget R y) (getD (a .states) k 0)) ys);
-      goes = λ k w l. masks-along read (transitions R) (stateWord R q firstTransitionPlace) a r few ways k w l ∙ rw (no-masks k, bit-none w);
+      goes = λ k w l. masks-along read (transitions R) (firstTransition R q) a r few ways k w l ∙ rw (no-masks k, bit-none w);
     }

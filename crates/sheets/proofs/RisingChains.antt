@@ -5,11 +5,10 @@ use Prim.Native.Nat.{ℕ, zero, suc, _+_, _≤_, _<_}
 use native.Mathlib.Omega.{arith}
 use mathlib.Core.List.{List, [], _∷_}
 use lib.ListN.{length, getD}
-use Rattle.sheets.specs.Format.{nextStatePlace}
 use Rattle.sheets.specs.Words.{chain}
 use Rattle.sheets.specs.Machine.{edges, nextEdge, machineRefusal}
 use Rattle.sheets.specs.MachineForms.{q5}
-use Rattle.sheets.specs.Rules.{Form, states, automata, stateWord, initial, statesOf, ruleRefusal, q10}
+use Rattle.sheets.specs.Rules.{Form, states, automata, nextState, initial, statesOf, ruleRefusal, q10}
 use Rattle.sheets.proofs.Tests.{and-right}
 use Rattle.sheets.proofs.Search.{le-or-gt, each-at}
 use Rattle.sheets.proofs.Chains.{link-rises}
@@ -74,13 +73,13 @@ edges-rise M accepted x lo hi =
 
 -- the states of an accepted sheet's automaton stand at one position each
 module _ (F : Form) (R : List ℕ) (accepted : ruleRefusal F R ≡ 0) (x : ℕ) (lo : 1 ≤ x) (hi : x ≤ automata R) where
-  links-rise : Rising (states R) (λ q. stateWord R q nextStatePlace)
+  links-rise : Rising (states R) (nextState R)
   unfolding q10
   links-rise q a b =
-      link-rises (states R) q (stateWord R q nextStatePlace) (search (and-right, each-at (states R) _ (rule-answers F R accepted .ten) q a b))
+      link-rises (states R) q (nextState R q) (search (and-right, each-at (states R) _ (rule-answers F R accepted .ten) q a b))
 
   rises-at : (a b : ℕ) → a < b → b < length (statesOf R x) → getD (statesOf R x) a 0 < getD (statesOf R x) b 0
-  rises-at a b l k = chain-rises (states R) (λ q. stateWord R q nextStatePlace) links-rise (states R) (initial R x) a b (initial-in F R accepted x lo hi .1) l k
+  rises-at a b l k = chain-rises (states R) (nextState R) links-rise (states R) (initial R x) a b (initial-in F R accepted x lo hi .1) l k
 
   pub one-position : (a b : ℕ) → a < length (statesOf R x) → b < length (statesOf R x) → getD (statesOf R x) a 0 ≡ getD (statesOf R x) b 0 → a ≡ b
   one-position a b k l e =

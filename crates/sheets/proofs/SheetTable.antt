@@ -3,13 +3,13 @@
 use mathlib.Core.Path.{_≡_, refl, sym, ap, _∙_}
 use Prim.Native.Nat.{ℕ, _≤_}
 use native.Mathlib.Omega.{arith}
-use mathlib.Core.List.{List, [], _∷_, _++_}
+use mathlib.Core.List.{List, [], _++_}
 use lib.Dec.{T}
 use Rattle.sheets.specs.Words.{indicator}
-use Rattle.sheets.specs.Questions.{Refusal, none as noRefusal, Question, ask, firstNo}
+use Rattle.sheets.specs.Questions.{Refusal, none as noRefusal, Question, firstNo}
 use Rattle.sheets.specs.Machine.{signals, machineQuestions, machineRefusal}
 use Rattle.sheets.specs.Rules.{Form, lent, recordQuestions, automataQuestions, ruleQuestions, ruleRefusal, overSignals}
-use Rattle.sheets.specs.Sheets.{sheetQuestions, sheetOf}
+use Rattle.sheets.specs.Sheets.{signalQuestions, sheetQuestions, sheetOf}
 use Rattle.sheets.proofs.Tests.{passed}
 use Rattle.sheets.proofs.Questions.{AllYes, none-refuses, all-yes, Every, every-both, every-map, first-has, Numbered, none-found, PutTo, nothing, also, same-number, first-table, later-table, none-of-both, asked-none, asked-yes, part-yes}
 
@@ -68,9 +68,6 @@ pub record BothAccepted (M R : List ℕ) : Type 0 where
 abbrev pub Sheeted : List Question → Type 0
 Sheeted = Every (λ k i. (1 ≤ k) × (i ≡ sheetOf k))
 
-abbrev pub signalQuestion : List ℕ → List ℕ → List Question
-signalQuestion M R = ask 16 0 (overSignals lent (signals M) R) ∷ []
-
 module _ (M R : List ℕ) where
   sheets-sheeted : Sheeted (sheetQuestions M R)
   unfolding sheetQuestions machineQuestions ruleQuestions recordQuestions automataQuestions sheetOf indicator
@@ -82,16 +79,16 @@ module _ (M R : List ℕ) where
   pub both-accepted : firstNo (sheetQuestions M R) .number ≡ 0 → BothAccepted M R
   unfolding sheetQuestions
   both-accepted e =
-      let m = machine-none 1 M (ruleQuestions lent R ++ signalQuestion M R) e in
-      let r = none-of-both (ruleQuestions lent R) (signalQuestion M R) (rules-numbered lent R) (m .1) in
-      record { machine = m .0; rules = r .0; over = all-yes (signalQuestion M R) (r .1) .0 }
+      let m = machine-none 1 M (ruleQuestions lent R ++ signalQuestions M R) e in
+      let r = none-of-both (ruleQuestions lent R) (signalQuestions M R) (rules-numbered lent R) (m .1) in
+      record { machine = m .0; rules = r .0; over = all-yes (signalQuestions M R) (r .1) .0 }
 
   pub both-pass : BothAccepted M R → firstNo (sheetQuestions M R) .number ≡ 0
   unfolding sheetQuestions
   both-pass b =
       sym
-      (part-yes (machineQuestions 1 M) (ruleQuestions lent R ++ signalQuestion M R) (sym (b .machine)) (machine-numbered 1 M) refl
-      (part-yes (ruleQuestions lent R) (signalQuestion M R) (sym (b .rules)) (rules-numbered lent R) refl
+      (part-yes (machineQuestions 1 M) (ruleQuestions lent R ++ signalQuestions M R) (sym (b .machine)) (machine-numbered 1 M) refl
+      (part-yes (ruleQuestions lent R) (signalQuestions M R) (sym (b .rules)) (rules-numbered lent R) refl
       (asked-yes 16 0 [] (sym (passed (overSignals lent (signals M) R) (b .over))) refl asked-none)))
 
   -- ---- a call over both: questions 1 to 16, then its own

@@ -114,6 +114,10 @@ operationPlace = 0
 abbrev pub operandPlace : ℕ
 operandPlace = 1
 
+-- of a path line the automaton is the first, and the lines of its variables, from 0, follow it
+abbrev pub argumentPlace : ℕ → ℕ
+argumentPlace i = operandPlace + 1 + i
+
 -- the words of a line record in their order: its operation, two operands, and zeros for those that are unused
 abbrev pub lineRecord : ℕ → ℕ → ℕ → List ℕ
 lineRecord op x y = op ∷ x ∷ y ∷ 0 ∷ 0 ∷ 0 ∷ []

@@ -1,7 +1,7 @@
 -- The operations of a line: of each number what its words are, and which line they make. Question 15, the line of a record, decoding, and what
 -- comparison writes derive from this.
 use Prim.Native.Nat.{ℕ, zero, suc, _+_}
-use Rattle.sheets.specs.Format.{operandPlace}
+use Rattle.sheets.specs.Format.{operandPlace, argumentPlace}
 use Rattle.sheets.specs.Structures.{Line, signal, negation, either, somePath, somePathNot, malformed}
 
 -- the numbers
@@ -37,6 +37,6 @@ unfoldable pub operation : ℕ → Operation
 operation zero = record { operands = oneSignal; makes = λ w. signal (w operandPlace) }
 operation (suc zero) = record { operands = linesAbove 1; makes = λ w. negation (w operandPlace) }
 operation (suc (suc zero)) = record { operands = linesAbove 2; makes = λ w. either (w operandPlace) (w (operandPlace + 1)) }
-operation (suc (suc (suc zero))) = record { operands = automatonWithLines; makes = λ w. somePath (w operandPlace) (λ i. w (operandPlace + 1 + i)) }
-operation (suc (suc (suc (suc zero)))) = record { operands = automatonWithLines; makes = λ w. somePathNot (w operandPlace) (λ i. w (operandPlace + 1 + i)) }
+operation (suc (suc (suc zero))) = record { operands = automatonWithLines; makes = λ w. somePath (w operandPlace) (λ i. w (argumentPlace i)) }
+operation (suc (suc (suc (suc zero)))) = record { operands = automatonWithLines; makes = λ w. somePathNot (w operandPlace) (λ i. w (argumentPlace i)) }
 operation (suc (suc (suc (suc (suc n))))) = record { operands = noOperands; makes = λ w. malformed }

@@ -86,16 +86,27 @@ variables R x = automatonWord R x Format.variablesPlace
 abbrev pub initial : List ℕ → ℕ → ℕ
 initial R x = automatonWord R x Format.initialPlace
 
+-- the state after state q on its chain
+abbrev pub nextState : List ℕ → ℕ → ℕ
+nextState R q = stateWord R q Format.nextStatePlace
+
 abbrev pub statesOf : List ℕ → ℕ → List ℕ
-statesOf R x = chain (states R) (λ q. stateWord R q Format.nextStatePlace) (initial R x)
+statesOf R x = chain (states R) (nextState R) (initial R x)
 
 -- the accepting word of state q is 1
 abbrev pub accepting : List ℕ → ℕ → Bool
 accepting R q = eqb (stateWord R q Format.acceptingPlace) 1
 
--- the transitions out of a state (document 01's edges of a rule sheet), and a transition's target and mask
+-- the transitions out of a state (document 01's edges of a rule sheet): the first, the one after a transition, all; and a transition's
+-- target and mask
+abbrev pub firstTransition : List ℕ → ℕ → ℕ
+firstTransition R q = stateWord R q Format.firstTransitionPlace
+
+abbrev pub nextTransition : List ℕ → ℕ → ℕ
+nextTransition R y = transitionWord R y Format.nextTransitionPlace
+
 abbrev pub transitionsOf : List ℕ → ℕ → List ℕ
-transitionsOf R q = chain (transitions R) (λ y. transitionWord R y Format.nextTransitionPlace) (stateWord R q Format.firstTransitionPlace)
+transitionsOf R q = chain (transitions R) (nextTransition R) (firstTransition R q)
 
 abbrev pub transitionTarget : List ℕ → ℕ → ℕ
 transitionTarget R y = transitionWord R y Format.transitionTargetPlace
@@ -182,8 +193,7 @@ q9 F R = each (automata R) (λ x. fits (F .variables) (variables R x) && within 
 -- "Is each accepting word 0 or 1, first edge in 1 to e, next state zero, or above its own number and at most m?"
 abbrev pub stateInRange : List ℕ → ℕ → Bool
 stateInRange R q =
-    leb (stateWord R q Format.acceptingPlace) 1 && within 1 (transitions R) (stateWord R q Format.firstTransitionPlace)
-    && link (states R) q (stateWord R q Format.nextStatePlace)
+    leb (stateWord R q Format.acceptingPlace) 1 && within 1 (transitions R) (firstTransition R q) && link (states R) q (nextState R q)
 
 unfoldable pub q10 : Form → List ℕ → Bool
 unfolding each
@@ -191,7 +201,7 @@ q10 F R = each (states R) (stateInRange R)
 
 -- "The same for edges: target in 1 to m, next zero or above and at most e?"
 abbrev pub transitionInRange : List ℕ → ℕ → Bool
-transitionInRange R y = within 1 (states R) (transitionTarget R y) && link (transitions R) y (transitionWord R y Format.nextTransitionPlace)
+transitionInRange R y = within 1 (states R) (transitionTarget R y) && link (transitions R) y (nextTransition R y)
 
 unfoldable pub q11 : Form → List ℕ → Bool
 unfolding each
@@ -247,7 +257,7 @@ unfoldable pub pathFits : Form → List ℕ → ℕ → Bool
 unfolding unused refersAbove
 pathFits F R j =
     within 1 (automata R) (lineWord F R j Format.operandPlace) && refersAbove F R j Format.operandPlace (variables R (lineWord F R j Format.operandPlace))
-    && unused F R j (Format.operandPlace + 1 + variables R (lineWord F R j Format.operandPlace))
+    && unused F R j (Format.argumentPlace (variables R (lineWord F R j Format.operandPlace)))
 
 -- the words of line j are such operands, and unused words are zero
 unfoldable pub operandsFit : Form → List ℕ → ℕ → Operands → Bool
@@ -277,9 +287,12 @@ unfoldable pub automataQuestions : Form → List ℕ → List Question
 unfolding q12 q13 q14
 automataQuestions F R = ask 12 0 (q12 F R) ∷ ask 13 0 (q13 F R) ∷ ask 14 0 (q14 F R) ∷ []
 
+abbrev pub lineQuestions : Form → List ℕ → List Question
+lineQuestions F R = ask 15 0 (q15 F R) ∷ []
+
 unfoldable pub ruleQuestions : Form → List ℕ → List Question
 unfolding recordQuestions automataQuestions q15
-ruleQuestions F R = recordQuestions F R ++ (automataQuestions F R ++ (ask 15 0 (q15 F R) ∷ []))
+ruleQuestions F R = recordQuestions F R ++ (automataQuestions F R ++ lineQuestions F R)
 
 -- the number of the question that refuses a rule sheet; 0, and the sheet is accepted, where none does
 abbrev pub ruleRefusal : Form → List ℕ → ℕ

@@ -8,10 +8,14 @@ use Rattle.sheets.specs.Questions.{Question, ask}
 use Rattle.sheets.specs.Machine.{signals, machineQuestions}
 use Rattle.sheets.specs.Rules.{lent, ruleQuestions, overSignals}
 
--- questions 1 to 16: the machine's, the rule's, and "Are all signal numbers at most a?"
+-- "Are all signal numbers at most a?"
+abbrev pub signalQuestions : List ℕ → List ℕ → List Question
+signalQuestions M R = ask 16 0 (overSignals lent (signals M) R) ∷ []
+
+-- questions 1 to 16: the machine's, the rule's, and that one
 unfoldable pub sheetQuestions : List ℕ → List ℕ → List Question
 unfolding machineQuestions ruleQuestions overSignals
-sheetQuestions M R = machineQuestions 1 M ++ (ruleQuestions lent R ++ (ask 16 0 (overSignals lent (signals M) R) ∷ []))
+sheetQuestions M R = machineQuestions 1 M ++ (ruleQuestions lent R ++ signalQuestions M R)
 
 -- the machine sheet that a question is put to, in a call with one machine sheet: 1 for questions 1 to 6, otherwise 0
 unfoldable pub sheetOf : ℕ → ℕ

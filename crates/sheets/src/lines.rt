@@ -1,10 +1,9 @@
 // A line of a rule sheet taken apart, and questions 15 and 16.
 ghost use mathlib.Core.Path.{_≡_};
-ghost use mathlib.Core.List.{_∷_, []};
-ghost use Prim.Native.Nat.{ℕ, _+_, _-_, _*_, _^_, _<_, _≤_};
-ghost use Rattle.sheets.specs.Questions.{ask, firstNo};
+ghost use Prim.Native.Nat.{_≤_};
+ghost use Rattle.sheets.specs.Questions.{firstNo};
 ghost use lib.Dec.{T};
-ghost use Rattle.sheets.specs.Format.{operationPlace, operandPlace, variablesMost};
+ghost use Rattle.sheets.specs.Format.{operationPlace, variablesMost};
 ghost use Rattle.sheets.specs.Operations.{oneSignal, linesAbove};
 ghost use Rattle.sheets.specs.Rules as Rules;
 ghost use Rattle.sheets.specs.inner.Lines as Lines;
@@ -136,7 +135,7 @@ fn path_fits(r: &[u16], from: u32, j: u16) -> bool
 // The automaton and the lines that the words of line j name.
 fn path_line_from(r: &[u16], from: u32, j: u16) -> PathLine
     requires { ⌜ from ≡ Rules.linesFrom (now r) ⌝ }
-    ensures { λ p. ⌜ p ≡ Lines.pathLine (Rules.lineWord Rules.lent (now (r .entry)) j operandPlace) (λ i. Rules.lineWord Rules.lent (now (r .entry)) j (operandPlace + 1 + i)) ⌝ }
+    ensures { λ p. ⌜ p ≡ Lines.named (now (r .entry)) j ⌝ }
 {
     let automaton = rules::line_word(r, from, j, format::OPERAND);
     let first = rules::line_word(r, from, j, SECOND_OPERAND);
@@ -152,8 +151,9 @@ fn path_line_from(r: &[u16], from: u32, j: u16) -> PathLine
     }
 }
 
+// The same for who reads one line alone.
 pub fn path_line(r: &[u16], j: u16) -> PathLine
-    ensures { λ p. ⌜ p ≡ Lines.pathLine (Rules.lineWord Rules.lent (now (r .entry)) j operandPlace) (λ i. Rules.lineWord Rules.lent (now (r .entry)) j (operandPlace + 1 + i)) ⌝ }
+    ensures { λ p. ⌜ p ≡ Lines.named (now (r .entry)) j ⌝ }
 {
     path_line_from(r, rules::lines_from(r), j)
 }
@@ -211,7 +211,7 @@ pub fn decode(r: &[u16], j: u16) -> Decoded
 
 // Question 15: a malformed line leaves the check with its number; 0 where every line is formed.
 pub fn lines_refusal(r: &[u16]) -> u16
-    ensures { λ q. ⌜ q ≡ firstNo (ask 15 0 (Rules.q15 Rules.lent (now (r .entry))) ∷ []) .number ⌝ }
+    ensures { λ q. ⌜ q ≡ firstNo (Rules.lineQuestions Rules.lent (now (r .entry))) .number ⌝ }
 {
     let l = rules::lines(r);
     let mut j: u16 = 0;

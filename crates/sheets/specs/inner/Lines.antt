@@ -4,7 +4,7 @@ use Prim.Native.Nat.{ℕ}
 use mathlib.Core.List.{List, [], _∷_}
 use mathlib.Core.Bool.{Bool, true, false}
 use lib.Dec.{leb}
-use Rattle.sheets.specs.Format.{operationPlace}
+use Rattle.sheets.specs.Format.{operationPlace, operandPlace, argumentPlace}
 use Rattle.sheets.specs.Structures as Structures
 use Rattle.sheets.specs.Rules.{lent, lineWord, lineFits, line}
 use Rattle.sheets.specs.declared.lines.PathLine.{PathLine}
@@ -17,7 +17,11 @@ use Rattle.sheets.specs.declared.lines.Decoded.the-variants.{Formed, Mal
 abbrev pub pathLine : ℕ → (ℕ → ℕ) → PathLine
 pathLine x arg = record { automaton = x; first = arg 0; second = arg 1; third = arg 2; fourth = arg 3 }
 
--- these lines, in their order
+-- the automaton and the lines that the words of line j name
+abbrev pub named : List ℕ → ℕ → PathLine
+named R j = pathLine (lineWord lent R j operandPlace) (λ i. lineWord lent R j (argumentPlace i))
+
+-- the lines of a path line, in their order
 abbrev pub arguments : PathLine → List ℕ
 arguments p = p .first ∷ p .second ∷ p .third ∷ p .fourth ∷ []
 

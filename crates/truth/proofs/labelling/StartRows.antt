@@ -1,21 +1,20 @@
 -- Whether the start nodes are all in a row: by the row of the start nodes that the code makes, and what it says of the last line.
 use mathlib.Core.Path.{_≡_, sym, subst}
 use mathlib.Core.Logic.{_↔_, ⊎-elim}
-use Prim.Native.Nat.{ℕ, _^_, _≤_}
+use Prim.Native.Nat.{ℕ, _≤_}
 use native.Mathlib.Omega.{arith}
 use mathlib.Core.List.{List}
 use mathlib.Core.Bool.{Bool, not, _&&_}
-use lib.Dec.{T, T-not, not-T, leb, ltb, eqb, leb→le}
+use lib.Dec.{T, T-not, not-T, leb, eqb}
 use borrow.Author.Tests.{le-leb, eq-eqb}
 use Rattle.sheets.specs.Words.{within, each}
-use Rattle.sheets.specs.Format.{plain}
-use Rattle.sheets.specs.Machine.{nodes, signals, startFlag, kripke, machineRefusal}
-use Rattle.sheets.specs.MachineForms.{nodeWord, q3, q6}
+use Rattle.sheets.specs.Machine.{nodes, startFlag, kripke, machineRefusal}
+use Rattle.sheets.specs.MachineForms.{q6}
 use Rattle.sheets.specs.Rules.{lent, lines}
 use Rattle.sheets.proofs.Tests.{and-left, and-right, and-both, surely}
 use Rattle.sheets.proofs.Search.{within-in, each-at, each-in, find, le-or-gt}
 use Rattle.sheets.proofs.Questions.{machine-answers}
-use Rattle.sheets.proofs.AcceptedMachine.{start-node}
+use Rattle.sheets.proofs.AcceptedMachine.{start-node, flag-most}
 use Rattle.sheets.specs.Format.{nodesMost}
 use Rattle.truth.specs.Sizes.{membersMost}
 use Rattle.truth.specs.Truth.{Keeps}
@@ -59,15 +58,14 @@ module _ (M : List ℕ) (small : nodes M ≤ nodesMost) where
 
 -- an accepted machine has a start node
 pub some-start : (M : List ℕ) → machineRefusal M ≡ 0 → (s : ℕ) × T (kripke M .start s)
-unfolding kripke q3 q6
+unfolding kripke q6
 some-start M accepted = ⊎-elim (λ r. (r .0, r .3)) (λ none. absurd (no-start none)) (find (nodes M) (kripke M .start))
   where
     no-start : ((s : ℕ) → 1 ≤ s → s ≤ nodes M → T (not (kripke M .start s))) → ⊥
     no-start none =
         let a = machine-answers M accepted in
         T-not (each (nodes M) (λ s. eqb (startFlag M s) 0)) (a .six) (each-in (nodes M) (λ s. eqb (startFlag M s) 0) (λ s lo hi.
-        let flag = each-at (nodes M) (λ s. ltb (nodeWord plain M s (plain .signals)) (2 ^ signals M) && leb (startFlag M s) 1) (a .three) s lo hi in
-        let most = leb→le (startFlag M s) 1 (and-right (ltb (nodeWord plain M s (plain .signals)) (2 ^ signals M)) (leb (startFlag M s) 1) flag) in
+        let most = flag-most M accepted s lo hi in
         let other : startFlag M s ≡ 1 → ⊥ = λ e. T-not (within 1 (nodes M) s && eqb (startFlag M s) 1) (none s lo hi)
         (and-both (within 1 (nodes M) s) (eqb (startFlag M s) 1) (within-in 1 (nodes M) s lo hi) (subst T (sym (eq-eqb (startFlag M s) 1 e)) tt)) in
         let e : startFlag M s ≡ 0 = ⊎-elim (λ l. omega arith) (λ l. absurd (other (omega arith))) (le-or-gt (startFlag M s) 0) in

@@ -7,7 +7,7 @@ use mathlib.Core.List.{List}
 use mathlib.Core.Bool.{Bool, true, false, not, _&&_, _||_, and-assoc}
 use lib.ListN.{length}
 use lib.Dec.{T, not-T, leb, leb→le, le→leb}
-use Rattle.sheets.specs.Format.{variablesMost}
+use Rattle.sheets.specs.Format.{signalsMost, variablesMost}
 use Rattle.sheets.specs.Words.{within}
 use Rattle.sheets.specs.Machine.{nodes, kripke, signalAt}
 use Rattle.sheets.specs.Rules.{lent, automata, automaton}
@@ -21,7 +21,6 @@ use Rattle.sheets.proofs.Search.{within-in}
 use Rattle.sheets.proofs.AcceptedMachine.{nodes-sized}
 use Rattle.sheets.proofs.FormedLines as FormedLines
 use Rattle.sheets.proofs.PositionedStates.{positioned-named, few-valued}
-use Rattle.sheets.specs.Format.{signalsMost}
 use Rattle.truth.specs.Sizes.{rowWords, membersMost}
 use Rattle.truth.specs.inner.Rows.{rowsHas}
 use Rattle.truth.specs.Truth.{SomePath as PathFrom, Means}

@@ -7,7 +7,7 @@ use mathlib.Core.List.{List}
 use mathlib.Core.Bool.{Bool, true, false, not, _&&_}
 use lib.ListN.{length, getD}
 use lib.Dec.{T}
-use Rattle.sheets.specs.Format.{operandPlace}
+use Rattle.sheets.specs.Format.{argumentPlace}
 use Rattle.sheets.specs.Words.{bit}
 use Rattle.sheets.specs.Structures.{Automaton}
 use Rattle.sheets.specs.Rules.{lent, lineWord}
@@ -29,7 +29,7 @@ agrees (suc v) w f = agrees v w f && same (bit w v) (f v)
 
 -- the line of variable i + 1 of line j; of a list of lines; of a decoded line
 abbrev pub argument : List ℕ → ℕ → ℕ → ℕ
-argument R j i = lineWord lent R j (operandPlace + 1 + i)
+argument R j i = lineWord lent R j (argumentPlace i)
 
 abbrev pub lineAt : List ℕ → ℕ → ℕ
 lineAt lines i = getD lines i 0

@@ -8,7 +8,6 @@ use Rattle.sheets.specs.Rules.{statesOf, leads, accepting}
 use Rattle.sheets.proofs.ReachedPositions.{unmixed-is}
 use Rattle.sheets.proofs.AutomatonLoops.{listed-at}
 use borrow.Author.Needs.{needs}
-use borrow.Author.Needs.{needs}
 use Rattle.sheets.proofs.condition.unmixed.Statement.{statement}
 use Rattle.sheets.proofs.condition.unmixed.Tie as tie
 

@@ -3,9 +3,8 @@ use borrow.Author.Needs.{needs}
 use mathlib.Core.Path.{sym}
 use mathlib.Core.Bool.{and-false}
 use native.Mathlib.Omega.{arith}
-use Prim.Native.Nat.{_+_}
 use borrow.Author.Tests.{lt-leb}
-use Rattle.sheets.specs.Format.{operandPlace, lineWords}
+use Rattle.sheets.specs.Format.{argumentPlace, lineWords}
 use Rattle.sheets.specs.Rules.{unused, pathFits}
 use Rattle.sheets.proofs.lines.path_fits.Statement.{statement}
 use Rattle.sheets.proofs.lines.path_fits.Tie as tie
@@ -21,7 +20,7 @@ unfolding pathFits unused
 returns c =
     let v = c .before .variables .result in
     let named = c .before .before .line-word .ensures in
-    sym (rw (← (rw named at (c .before .variables .ensures))) (simp (lt-leb (operandPlace + 1 + v) lineWords (omega arith), and-false)))
+    sym (rw (← (rw named at (c .before .variables .ensures))) (simp (lt-leb (argumentPlace v) lineWords (omega arith), and-false)))
 
 automata-requires : tie.Need-automata-requires
 automata-requires c κs = search needs

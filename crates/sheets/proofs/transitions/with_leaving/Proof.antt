@@ -5,7 +5,6 @@ use Rattle.sheets.specs.inner.Transitions.{LeavingTaken}
 use Rattle.sheets.specs.declared.words.Step.{Step}
 use Rattle.sheets.proofs.LeavingChains.{left-wide, left-more}
 use borrow.Author.Needs.{needs}
-use borrow.Author.Needs.{needs}
 use Rattle.sheets.proofs.transitions.with_leaving.Statement.{statement}
 use Rattle.sheets.proofs.transitions.with_leaving.Tie as tie
 
