@@ -186,9 +186,13 @@ unfoldable pub q8 : Form → List ℕ → Bool
 q8 F R = eqb (length R) (Format.rulesLength (F .lineWords) (automata R) (states R) (transitions R) (lines R))
 
 -- "Are v and the first state (1 to m) in range?"
+unfoldable pub automatonInRange : Form → List ℕ → ℕ → Bool
+unfolding fits
+automatonInRange F R x = fits (F .variables) (variables R x) && within 1 (states R) (initial R x)
+
 unfoldable pub q9 : Form → List ℕ → Bool
-unfolding each fits
-q9 F R = each (automata R) (λ x. fits (F .variables) (variables R x) && within 1 (states R) (initial R x))
+unfolding each automatonInRange
+q9 F R = each (automata R) (automatonInRange F R)
 
 -- "Is each accepting word 0 or 1, first edge in 1 to e, next state zero, or above its own number and at most m?"
 abbrev pub stateInRange : List ℕ → ℕ → Bool

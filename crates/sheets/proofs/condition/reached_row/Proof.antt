@@ -29,7 +29,7 @@ spread-requires c κs = search needs
 
 returns : tie.Need-returns Inv-loop μ-loop
 returns c =
-    let at = c .before .before .before .loop in let a = c .before .before .before .before .args in
+    let turn : tie.In-loop Inv-loop μ-loop = search in let at = turn .before .loop in let a = turn .before .before .args in
     let e : at .k + (a .n - at .k) ≡ a .n = omega arith in
     rw e at
     (reach-stays
@@ -50,7 +50,7 @@ loop-less c = search needs
 
 loop-again : tie.Need-loop-again Inv-loop μ-loop
 loop-again c =
-    let at = c .before .before .before .loop in let a = c .before .before .before .before .args in
+    let turn : tie.In-loop Inv-loop μ-loop = search in let at = turn .before .loop in let a = turn .before .before .args in
     (omega arith, λ i. c .before .spread .ensures i ∙ reach-round (inRow (a .t1)) (a .n) (a .p) (at .k) (bit (at .out)) (at .inv .1) i)
 
 returns-2 : tie.Need-returns-2 Inv-loop μ-loop

@@ -12,7 +12,7 @@ enum-known-s : tie.Need-enum-known-s
 enum-known-s c = search needs
 
 returns : tie.Need-returns
-returns c = left-wide _ (c .before .before .before .s .given .1) (omega arith)
+returns c = let taken : tie.After-s = search in left-wide _ (taken .s .given .1) (omega arith)
 
 positions-requires : tie.Need-positions-requires
 positions-requires c κs = search needs
@@ -34,10 +34,9 @@ enum-told c = search needs
 
 returns-2 : tie.Need-returns-2
 returns-2 c =
-    let marks = c .before .before .before .before .before .before .before .before .before in
-    let found = marks .before .before in
-    left-more _ (found .before .before .before .before .before .before .s .given .1) _ _ _ _ _ (found .positions .ensures) (marks .before .with-mask .ensures) (marks .marked .ensures)
-    (c .before .before .before .before .before .before .before .before .some .ensures) (c .before .before .before .before .before .before .some2 .ensures)
+    let again : tie.After-some2 = search in let there = again .before .before in let led = there .before in let masked = led .before in let here = masked .before in
+    let taken : tie.After-s = search in
+    left-more _ (taken .s .given .1) _ _ _ _ _ (here .positions .ensures) (masked .with-mask .ensures) (led .marked .ensures) (there .some .ensures) (again .some2 .ensures)
 
 returns-3 : tie.Need-returns-3
 returns-3 c = subst (λ (s : Step). LeavingTaken (c .before .before .args .a) s (c .before .before .args .a)) (sym (c .enum-told .given .1)) refl
