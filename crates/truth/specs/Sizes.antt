@@ -8,9 +8,12 @@ positionsMost = chainedMost
 
 -- ---- rows
 
--- the bits of a word of a row, its words, and its members, from 1
+-- the bits of a word of a row, the first member of its high word, its words, and its members, from 1
 abbrev pub rowWordBits : ℕ
 rowWordBits = 64
+
+abbrev pub highFirst : ℕ
+highFirst = rowWordBits + 1
 
 abbrev pub rowWords : ℕ
 rowWords = 2

@@ -10,7 +10,7 @@ use Rattle.sheets.specs.Format.{wordBits}
 use Rattle.sheets.specs.Words.{bit}
 use Rattle.sheets.proofs.Search.{le-or-gt}
 use Rattle.sheets.proofs.BitLaws.{bit-none, bit-above}
-use Rattle.truth.specs.Sizes.{valuationsMost}
+use Rattle.truth.specs.Sizes.{rowWordBits, highFirst, valuationsMost}
 use Rattle.truth.specs.inner.Rows.{held}
 use Rattle.truth.specs.inner.Pairs.{Before}
 use Rattle.truth.specs.inner.Product.{Drawn}
@@ -31,7 +31,7 @@ module _ (mask : ℕ) (word : mask < 2 ^ wordBits) where
       to t =
           let r = held-in mask 0 u t in
           ⊎-elim (λ le. let b : T (bit mask (u - 1)) = rw (held-low mask 0 u (r .0) le) at t in (r .0, (omega (arith, few-bits (u - 1) b), b)))
-          (λ gt. absurd (rw (held-high mask 0 u gt (r .1), bit-none (u - 65)) at t)) (le-or-gt u 64)
+          (λ gt. absurd (rw (held-high mask 0 u gt (r .1), bit-none (u - highFirst)) at t)) (le-or-gt u rowWordBits)
 
   pub drawn : (table : List ℕ) (set row : ℕ → Bool) → ((u : ℕ) → T (set u) ↔ Member u) → ((s : ℕ) → T (row s) ↔ Before table set s)
       → (s : ℕ) → T (row s) ↔ Drawn table mask s

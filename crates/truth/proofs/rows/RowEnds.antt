@@ -11,7 +11,7 @@ use Rattle.sheets.specs.Words.{bit}
 use Rattle.sheets.proofs.Search.{le-or-gt}
 use Rattle.sheets.proofs.Bits.{odd-or-even, bit-zero, bit-suc, no-bit}
 use Rattle.sheets.proofs.BitLaws.{bit-above}
-use Rattle.truth.specs.Sizes.{membersMost}
+use Rattle.truth.specs.Sizes.{rowWordBits, highFirst, membersMost}
 use Rattle.truth.specs.inner.Rows.{held, Foremost, First, Last}
 use Rattle.truth.proofs.rows.RowLaws.{held-in, held-low, held-high, held-lower, held-upper, held-none}
 
@@ -57,10 +57,10 @@ bit-most w j i hi t = ⊎-elim (λ l. l) (λ l. absurd (rw (bit-above (suc j) w 
 
 module _ (a b : ℕ) where
   -- a node stands in the lower or in the upper word
-  by-word : (s : ℕ) → T (held a b s) → ((1 ≤ s) × (s ≤ 64) × T (bit a (s - 1))) ⊎ ((64 < s) × T (bit b (s - 65)))
+  by-word : (s : ℕ) → T (held a b s) → ((1 ≤ s) × (s ≤ rowWordBits) × T (bit a (s - 1))) ⊎ ((rowWordBits < s) × T (bit b (s - highFirst)))
   by-word s t =
       let r = held-in a b s t in
-      ⊎-elim (λ l. inl (r .0, l, rw (held-low a b s (r .0) l) at t)) (λ l. inr (l, rw (held-high a b s l (r .1)) at t)) (le-or-gt s 64)
+      ⊎-elim (λ l. inl (r .0, l, rw (held-low a b s (r .0) l) at t)) (λ l. inr (l, rw (held-high a b s l (r .1)) at t)) (le-or-gt s rowWordBits)
 
   pub found-none : {before : ℕ → ℕ → Type 0} → a ≡ 0 → b ≡ 0 → Foremost before (held a b) 0
   found-none e f = record {
@@ -70,13 +70,13 @@ module _ (a b : ℕ) where
   }
 
   -- the bits of the word w stand for the nodes from o on
-  module _ (w o : ℕ) (from : 1 ≤ o) (is : (k : ℕ) → k < 64 → held a b (k + o) ≡ bit w k) (some : 0 < w) (small : w < 2 ^ 64) where
+  module _ (w o : ℕ) (from : 1 ≤ o) (is : (k : ℕ) → k < rowWordBits → held a b (k + o) ≡ bit w k) (some : 0 < w) (small : w < 2 ^ rowWordBits) where
     -- every other node comes after them, or is one of them
-    first-at : ((s : ℕ) → T (held a b s) → (o + 64 ≤ s) ⊎ ((o ≤ s) × T (bit w (s - o)))) → First (held a b) (trailingZeros 64 w % 64 + o)
+    first-at : ((s : ℕ) → T (held a b s) → (o + rowWordBits ≤ s) ⊎ ((o ≤ s) × T (bit w (s - o)))) → First (held a b) (trailingZeros rowWordBits w % rowWordBits + o)
     first-at nodes =
-        let r = lowest 64 w some small in
-        let k = trailingZeros 64 w in
-        let e : k % 64 ≡ k = omega (arith, r .below) in
+        let r = lowest rowWordBits w some small in
+        let k = trailingZeros rowWordBits w in
+        let e : k % rowWordBits ≡ k = omega (arith, r .below) in
         rw e (record {
           found = λ n. is k (r .below) ∙ r .isSet;
           none = λ z. absurd (omega arith);
@@ -84,33 +84,33 @@ module _ (a b : ℕ) where
         })
 
     -- every other node comes before them, or is one of them
-    last-at : (n : ℕ) → n ≡ o + 63 → ((s : ℕ) → T (held a b s) → (s < o) ⊎ ((o ≤ s) × T (bit w (s - o)))) → Last (held a b) (n - leadingZeros 64 w % 64)
+    last-at : (n : ℕ) → n ≡ o + (rowWordBits - 1) → ((s : ℕ) → T (held a b s) → (s < o) ⊎ ((o ≤ s) × T (bit w (s - o)))) → Last (held a b) (n - leadingZeros rowWordBits w % rowWordBits)
     last-at n q nodes =
-        let t = leading-top 64 w some small in
+        let t = leading-top rowWordBits w some small in
         let j = t .0 in
-        let few : j < 64 = omega (arith, t .1) in
-        let e : n - leadingZeros 64 w % 64 ≡ j + o = omega (arith, t .1) in
+        let few : j < rowWordBits = omega (arith, t .1) in
+        let e : n - leadingZeros rowWordBits w % rowWordBits ≡ j + o = omega (arith, t .1) in
         rw e (record {
           found = λ m. is j few ∙ bit-top w j (t .2) (t .3);
           none = λ z. absurd (omega arith);
           others = λ s u. ⊎-elim (λ l. omega arith) (λ l. omega (arith, bit-most w j (s - o) (t .3) (l .1), l .0)) (nodes s u);
         })
 
-  pub first-low : 0 < a → a < 2 ^ 64 → First (held a b) (trailingZeros 64 a % 64 + 1)
+  pub first-low : 0 < a → a < 2 ^ rowWordBits → First (held a b) (trailingZeros rowWordBits a % rowWordBits + 1)
   first-low some small =
       first-at a 1 (omega arith) (held-lower a b) some small (λ s t. ⊎-elim (λ l. inr (l .0, l .2)) (λ h. inl (omega (arith, h .0))) (by-word s t))
 
-  pub first-high : a ≡ 0 → 0 < b → b < 2 ^ 64 → First (held a b) (trailingZeros 64 b % 64 + 65)
+  pub first-high : a ≡ 0 → 0 < b → b < 2 ^ rowWordBits → First (held a b) (trailingZeros rowWordBits b % rowWordBits + highFirst)
   first-high e some small =
-      first-at b 65 (omega arith) (held-upper a b) some small
+      first-at b highFirst (omega arith) (held-upper a b) some small
       (λ s t. ⊎-elim (λ l. absurd (no-bit (s - 1) (rw e at (l .2)))) (λ h. inr (omega (arith, h .0), h .1)) (by-word s t))
 
-  pub last-low : b ≡ 0 → 0 < a → a < 2 ^ 64 → Last (held a b) (64 - leadingZeros 64 a % 64)
+  pub last-low : b ≡ 0 → 0 < a → a < 2 ^ rowWordBits → Last (held a b) (rowWordBits - leadingZeros rowWordBits a % rowWordBits)
   last-low e some small =
-      last-at a 1 (omega arith) (held-lower a b) some small 64 refl
-      (λ s t. ⊎-elim (λ l. inr (l .0, l .2)) (λ h. absurd (no-bit (s - 65) (rw e at (h .1)))) (by-word s t))
+      last-at a 1 (omega arith) (held-lower a b) some small rowWordBits refl
+      (λ s t. ⊎-elim (λ l. inr (l .0, l .2)) (λ h. absurd (no-bit (s - highFirst) (rw e at (h .1)))) (by-word s t))
 
-  pub last-high : 0 < b → b < 2 ^ 64 → Last (held a b) (membersMost - leadingZeros 64 b % 64)
+  pub last-high : 0 < b → b < 2 ^ rowWordBits → Last (held a b) (membersMost - leadingZeros rowWordBits b % rowWordBits)
   last-high some small =
-      last-at b 65 (omega arith) (held-upper a b) some small membersMost refl
+      last-at b highFirst (omega arith) (held-upper a b) some small membersMost refl
       (λ s t. ⊎-elim (λ l. inl (omega (arith, l .1))) (λ h. inr (omega (arith, h .0), h .1)) (by-word s t))

@@ -8,7 +8,7 @@ use mathlib.Core.List.{List}
 use lib.ListN.{getD}
 use Rattle.sheets.specs.Words.{word}
 use Rattle.sheets.proofs.Search.{le-or-gt}
-use Rattle.truth.specs.Sizes.{rowWordBits, membersMost, lowAt, highAt}
+use Rattle.truth.specs.Sizes.{rowWordBits, highFirst, membersMost, lowAt, highAt}
 use Rattle.truth.specs.Labelling.{rowBit}
 use Rattle.truth.specs.inner.Rows.{rowsHas}
 use Rattle.truth.proofs.rows.RowLaws.{held-low, held-high}
@@ -32,5 +32,5 @@ row-bit rows j s lo hi = ⊎-elim low high (le-or-gt s rowWordBits)
     high : rowWordBits < s → rowBit rows j s ≡ rowsHas rows (j - 1) s
     high h =
         let e : (s - 1) / rowWordBits ≡ 1 = omega arith in
-        let f : (s - 1) % rowWordBits ≡ s - suc rowWordBits = omega arith in
+        let f : (s - 1) % rowWordBits ≡ s - highFirst = omega arith in
         rw (e, f) (sym (held-high a b s h hi))

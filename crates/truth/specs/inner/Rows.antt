@@ -7,7 +7,7 @@ use lib.ListN.{getD}
 use lib.Dec.{T, leb, eqb}
 use Rattle.sheets.specs.Words.{bit, within, indicator, anyOf}
 use Rattle.sheets.specs.Machine.{edgesOf, target}
-use Rattle.truth.specs.Sizes.{rowWordBits, membersMost, lowAt, highAt}
+use Rattle.truth.specs.Sizes.{rowWordBits, highFirst, membersMost, lowAt, highAt}
 use Rattle.truth.specs.declared.rows.Row.{Row}
 
 unfoldable pub pick : Bool → Bool → Bool → Bool
@@ -17,7 +17,7 @@ pick false a b = b
 -- node s is in the set that two words hold
 unfoldable pub held : ℕ → ℕ → ℕ → Bool
 unfolding pick bit
-held low high s = within 1 membersMost s && pick (leb s rowWordBits) (bit low (s - 1)) (bit high (s - suc rowWordBits))
+held low high s = within 1 membersMost s && pick (leb s rowWordBits) (bit low (s - 1)) (bit high (s - highFirst))
 
 abbrev pub rowHas : Row → ℕ → Bool
 rowHas r s = held (r .low) (r .high) s

@@ -1,3 +1,4 @@
+-- `numbers_left` meets its contract: no number ends the walk early.
 use borrow.Author.Needs.{needs}
 use mathlib.Core.Logic.{inl}
 use Rattle.sheets.proofs.along.numbers_left.Statement.{statement}

@@ -1,3 +1,4 @@
+-- `leaving_left` meets its contract: no transition ends the walk early.
 use borrow.Author.Needs.{needs}
 use mathlib.Core.Logic.{inl}
 use Rattle.sheets.proofs.transitions.leaving_left.Statement.{statement}

@@ -1,3 +1,4 @@
+-- `marked` meets its contract: a mask of 0 leaves no position, any other all of them.
 use borrow.Author.Tests.{eq-eqb, ne-eqb}
 use Rattle.sheets.proofs.BitLaws.{bit-none}
 use Rattle.sheets.proofs.transitions.marked.Statement.{statement}

@@ -1,3 +1,4 @@
+-- `below_power` meets its contract: a word has no bits past its own, and below them the power is a shift.
 use native.Mathlib.Omega.{arith}
 use borrow.Author.Needs.{needs}
 use mathlib.Core.Path.{sym}

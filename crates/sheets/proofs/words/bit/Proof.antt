@@ -1,3 +1,4 @@
+-- `bit` meets its contract: past a word's bits none is set, and the others are read by a shift.
 use borrow.Author.Needs.{needs}
 use mathlib.Core.Path.{sym}
 use Rattle.sheets.specs.Format.{wordBits}

@@ -1,3 +1,4 @@
+-- `word` meets its contract: past the end a word is 0.
 use borrow.Author.Needs.{needs}
 use mathlib.Core.Path.{sym}
 use lib.ListN.{List·getD-eq-default}

@@ -1,3 +1,4 @@
+-- `targets_left` meets its contract: the walk ends early where it comes to the tail.
 use borrow.Author.Needs.{needs}
 use mathlib.Core.Path.{refl}
 use mathlib.Core.Logic.{inl, inr}

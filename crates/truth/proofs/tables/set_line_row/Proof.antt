@@ -1,3 +1,4 @@
+-- `set_line_row` meets its contract: the two words of the line's row.
 use borrow.Author.Needs.{needs}
 use native.Mathlib.Omega.{arith}
 use lib.ListN.{length-set}

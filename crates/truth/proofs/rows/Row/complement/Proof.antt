@@ -1,3 +1,4 @@
+-- `complement` meets its contract: each word's complement.
 use borrow.Author.Needs.{needs}
 use Rattle.truth.proofs.rows.RowLaws.{held-not}
 use Rattle.truth.proofs.rows.Row.complement.Statement.{statement}

@@ -1,3 +1,4 @@
+-- `empty` meets its contract: two words of 0 hold nothing.
 use Rattle.truth.proofs.rows.RowLaws.{held-none}
 use Rattle.truth.proofs.rows.Row.empty.Statement.{statement}
 use Rattle.truth.proofs.rows.Row.empty.Tie as tie

@@ -1,3 +1,4 @@
+-- `has` meets its contract: the member's bit, in the word that has it.
 use mathlib.Core.Path.{sym, _∙_}
 use native.Mathlib.Omega.{arith}
 use Rattle.sheets.proofs.BitLaws.{bit-read}

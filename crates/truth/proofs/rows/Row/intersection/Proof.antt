@@ -1,3 +1,4 @@
+-- `intersection` meets its contract: word by word.
 use Rattle.truth.proofs.rows.RowLaws.{held-and}
 use Rattle.truth.proofs.rows.Row.intersection.Statement.{statement}
 use Rattle.truth.proofs.rows.Row.intersection.Tie as tie

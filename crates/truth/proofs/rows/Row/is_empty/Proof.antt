@@ -1,3 +1,4 @@
+-- `is_empty` meets its contract: by the low word where it is not 0, and else by the high one.
 use mathlib.Core.Path.{sym}
 use native.Mathlib.Omega.{arith}
 use Rattle.truth.proofs.rows.RowLaws.{empty-low, empty-high}

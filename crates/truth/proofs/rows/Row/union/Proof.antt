@@ -1,3 +1,4 @@
+-- `union` meets its contract: word by word.
 use Rattle.truth.proofs.rows.RowLaws.{held-or}
 use Rattle.truth.proofs.rows.Row.union.Statement.{statement}
 use Rattle.truth.proofs.rows.Row.union.Tie as tie

@@ -1,3 +1,4 @@
+-- `with` meets its contract: one bit more, in the word that has the member.
 use native.Mathlib.Omega.{arith}
 use Rattle.truth.proofs.rows.RowLaws.{not-in-row, past-row, with-out, with-low, with-high}
 use Rattle.truth.proofs.rows.Row.with.Statement.{statement}
