@@ -15,10 +15,14 @@ enum-known-answer : tie.Need-enum-known-answer
 enum-known-answer c = search needs
 
 returns : tie.Need-returns
-returns c = accepted-number (machineQuestions 1 (c .before .before .before .before .args .m .now)) _ (c .before .before .check-machine .ensures) (c .enum-told .given .1)
+returns c =
+    let start : tie.Start = search in
+    accepted-number (machineQuestions 1 (start .args .m .now)) _ (c .before .before .check-machine .ensures) (c .enum-told .given .1)
 
 returns-2 : tie.Need-returns-2
-returns-2 c = refused-number (machineQuestions 1 (c .before .before .before .before .before .args .m .now)) _ (c .before .before .before .check-machine .ensures) _ _ (c .before .answer .given .1)
+returns-2 c =
+    let start : tie.Start = search in
+    refused-number (machineQuestions 1 (start .args .m .now)) _ (c .before .before .before .check-machine .ensures) _ _ (c .before .answer .given .1)
 
 pub toqshenay-check-machine-spec : {M : Type 1} → statement M
 toqshenay-check-machine-spec =

@@ -15,10 +15,14 @@ enum-known-answer : tie.Need-enum-known-answer
 enum-known-answer c = search needs
 
 returns : tie.Need-returns
-returns c = accepted-number (ruleQuestions lent (c .before .before .before .before .args .r .now)) _ (c .before .before .check-rules .ensures) (c .enum-told .given .1)
+returns c =
+    let start : tie.Start = search in
+    accepted-number (ruleQuestions lent (start .args .r .now)) _ (c .before .before .check-rules .ensures) (c .enum-told .given .1)
 
 returns-2 : tie.Need-returns-2
-returns-2 c = refused-number (ruleQuestions lent (c .before .before .before .before .before .args .r .now)) _ (c .before .before .before .check-rules .ensures) _ _ (c .before .answer .given .1)
+returns-2 c =
+    let start : tie.Start = search in
+    refused-number (ruleQuestions lent (start .args .r .now)) _ (c .before .before .before .check-rules .ensures) _ _ (c .before .answer .given .1)
 
 pub toqshenay-check-rules-spec : {M : Type 1} → statement M
 toqshenay-check-rules-spec =

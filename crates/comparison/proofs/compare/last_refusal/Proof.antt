@@ -22,7 +22,8 @@ signals-requires-2 c κs = search needs
 
 returns : tie.Need-returns
 returns c =
-    let a = c .before .before .before .before .before .args in
+    let start : tie.Start = search in
+    let a = start .args in
     by-signals (a .m1 .now) (a .m2 .now) (a .space) (λ e. c .if1 .taken (c .before .before .signals .ensures ∙ e ∙ sym (c .before .signals2 .ensures)))
 
 nodes-requires : tie.Need-nodes-requires

@@ -28,7 +28,9 @@ loop-less : tie.Need-loop-less Inv-loop μ-loop
 loop-less c = search needs
 
 loop-again : tie.Need-loop-again Inv-loop μ-loop
-loop-again c = (search needs, follows-then (c .before .before .before .before .loop .inv .1) (c .put .ensures))
+loop-again c =
+    let at-loop : tie.At-loop Inv-loop μ-loop = search in
+    (search needs, follows-then (at-loop .loop .inv .1) (c .put .ensures))
 
 returns : tie.Need-returns Inv-loop μ-loop
 returns c = c .before .loop .inv .1

@@ -52,6 +52,20 @@ put-parts-Inv-loop rule page₀ at k mark marks c₀ there₀ l₀ page c there 
 abbrev put-parts-μ-loop : put-parts-lts.MeasureT-loop
 put-parts-μ-loop rule page₀ at k mark marks c₀ there₀ l₀ page c there l = k - l
 
+-- the places that the proofs name: where it starts, the head of its loop, and after a part
+abbrev AtStart : ℕ → Type 0
+AtStart t = put-parts-lts.Start (claims t) (put-parts-at t) put-parts.Post put-parts-Inv-loop put-parts-μ-loop
+
+abbrev AtLoop : ℕ → Type 0
+AtLoop t = put-parts-lts.At-loop (claims t) (put-parts-at t) put-parts.Post put-parts-Inv-loop put-parts-μ-loop
+
+abbrev AfterPart : ℕ → Type 0
+AfterPart t = put-parts-lts.After-part (claims t) (put-parts-at t) put-parts.Post put-parts-Inv-loop put-parts-μ-loop
+
+-- what was required holds at the head of the loop too
+abbrev required : (t : ℕ) → AtLoop t → AtStart t
+required t c = search
+
 put-parts-gather-requires : (t : ℕ) → put-parts-lts.Need-gather-requires (claims t) (put-parts-at t) put-parts.Post put-parts-Inv-loop put-parts-μ-loop
 put-parts-gather-requires t c κs = search needs
 
@@ -82,8 +96,8 @@ put-parts-sub-t21 t c = search needs
 put-parts-put-parts-requires : (t : ℕ) → put-parts-lts.Need-put-parts-requires (claims t) (put-parts-at t) put-parts.Post put-parts-Inv-loop put-parts-μ-loop
 put-parts-put-parts-requires t c κs =
     let at-if2 = c .before .before in
-    let at-start = at-if2 .before .before .before .before .before .before .before .before .before .before .before .before .before .before .before .before .before in
-    let pre = at-start .pre in
+    let at-loop : AtLoop t = search in
+    let pre = required t at-loop .pre in
     (omega (arith, pre .0, at-if2 .if2 .taken), tt)
 
 put-parts-loop-less : (t : ℕ) → put-parts-lts.Need-loop-less (claims t) (put-parts-at t) put-parts.Post put-parts-Inv-loop put-parts-μ-loop
@@ -91,8 +105,8 @@ put-parts-loop-less t c = search needs
 
 put-parts-loop-again : (t : ℕ) → put-parts-lts.Need-loop-again (claims t) (put-parts-at t) put-parts.Post put-parts-Inv-loop put-parts-μ-loop
 put-parts-loop-again t c =
-    let at-part = c .before .before .before .before .before .before .before .before in
-    let at-loop = at-part .before .before .before .before .before in
+    let at-part : AfterPart t = search in
+    let at-loop : AtLoop t = search in
     (search needs, follows-then (at-loop .loop .inv .1) (follows-then (at-part .part .ensures) (c .put-parts .ensures)))
 
 put-parts-loop-less-2 : (t : ℕ) → put-parts-lts.Need-loop-less-2 (claims t) (put-parts-at t) put-parts.Post put-parts-Inv-loop put-parts-μ-loop
@@ -100,8 +114,8 @@ put-parts-loop-less-2 t c = search needs
 
 put-parts-loop-again-2 : (t : ℕ) → put-parts-lts.Need-loop-again-2 (claims t) (put-parts-at t) put-parts.Post put-parts-Inv-loop put-parts-μ-loop
 put-parts-loop-again-2 t c =
-    let at-part = c .before .before .before .before .before in
-    let at-loop = at-part .before .before .before .before .before in
+    let at-part : AfterPart t = search in
+    let at-loop : AtLoop t = search in
     (search needs, follows-then (at-loop .loop .inv .1) (at-part .part .ensures))
 
 put-parts-loop-less-3 : (t : ℕ) → put-parts-lts.Need-loop-less-3 (claims t) (put-parts-at t) put-parts.Post put-parts-Inv-loop put-parts-μ-loop
@@ -110,7 +124,7 @@ put-parts-loop-less-3 t c = search needs
 put-parts-loop-again-3 : (t : ℕ) → put-parts-lts.Need-loop-again-3 (claims t) (put-parts-at t) put-parts.Post put-parts-Inv-loop put-parts-μ-loop
 put-parts-loop-again-3 t c =
     let at-part = c .before .before .before in
-    let at-loop = at-part .before .before .before .before .before in
+    let at-loop : AtLoop t = search in
     (search needs, follows-then (at-loop .loop .inv .1) (at-part .part .ensures))
 
 put-parts-returns : (t : ℕ) → put-parts-lts.Need-returns (claims t) (put-parts-at t) put-parts.Post put-parts-Inv-loop put-parts-μ-loop

@@ -23,7 +23,9 @@ signals-requires-3 : tie.Need-signals-requires-3
 signals-requires-3 c κs = search needs
 
 returns-3 : tie.Need-returns-3
-returns-3 c = follows-then (c .before .before .before .before .before .before .signals2 .ensures) (follows-then (c .before .before .before .and .ensures) (c .before .signals3 .ensures))
+returns-3 c =
+    let at-signals2 : tie.After-signals2 = search in
+    follows-then (at-signals2 .signals2 .ensures) (follows-then (c .before .before .before .and .ensures) (c .before .signals3 .ensures))
 
 fits-requires : tie.Need-fits-requires
 fits-requires c κs = search needs
@@ -44,7 +46,7 @@ signals-requires-4 c κs = search needs
 returns-5 : tie.Need-returns-5
 returns-5 c =
     let at-and2 = c .before .before in
-    let at-signals3 = at-and2 .before .before .before .before .before in
+    let at-signals3 : tie.After-signals3 = search in
     let at-and = at-signals3 .before .before in
     let at-signals2 = at-and .before .before .before in
     follows-then (at-signals2 .signals2 .ensures) (follows-then (follows-back (follows-then (at-and .and .ensures) (at-signals3 .signals3 .ensures))) (follows-then (at-and2 .and2 .ensures) (c .signals4 .ensures)))

@@ -43,7 +43,7 @@ closed-requires-2 c κs = search needs
 
 returns-3 : tie.Need-returns-3
 returns-3 c =
-    let at-any-signals = c .before .before .before .before .before in
+    let at-any-signals : tie.After-any-signals = search in
     let at-put2 = at-any-signals .before .before in
     let at-put = at-put2 .before .before .before in
     rw (c .closed2 .ensures) (follows-back (follows-then (at-put .put .ensures) (follows-then (at-put2 .put2 .ensures) (at-any-signals .any-signals .ensures))))
@@ -53,7 +53,7 @@ closed-requires-3 c κs = search needs
 
 returns-4 : tie.Need-returns-4
 returns-4 c =
-    let at-any-signals = c .before .before .before .before .before .before .before in
+    let at-any-signals : tie.After-any-signals = search in
     let at-put2 = at-any-signals .before .before in
     let at-put = at-put2 .before .before .before in
     rw (c .closed3 .ensures) (follows-back (follows-then (at-put .put .ensures) (follows-then (at-put2 .put2 .ensures) (at-any-signals .any-signals .ensures))))
@@ -75,8 +75,8 @@ add-t31 c = search needs
 
 returns-5 : tie.Need-returns-5
 returns-5 c =
-    let at-put3 = c .before .before .before .before in
-    let at-any-signals = at-put3 .before .before .before .before .before .before .before .before .before in
+    let at-put3 : tie.After-put3 = search in
+    let at-any-signals : tie.After-any-signals = search in
     let at-put2 = at-any-signals .before .before in
     let at-put = at-put2 .before .before .before in
     follows-then (at-put .put .ensures) (follows-then (follows-back (follows-then (at-put2 .put2 .ensures) (at-any-signals .any-signals .ensures))) (follows-then (at-put3 .put3 .ensures) (c .before .new-line .ensures)))

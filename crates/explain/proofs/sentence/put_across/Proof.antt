@@ -14,7 +14,9 @@ put-requires-2 : tie.Need-put-requires-2
 put-requires-2 c κs = search needs
 
 returns : tie.Need-returns
-returns c = follows-then (c .before .before .before .before .put .ensures) (follows-then (c .before .before .new-line .ensures) (c .put2 .ensures))
+returns c =
+    let at-put : tie.After-put = search in
+    follows-then (at-put .put .ensures) (follows-then (c .before .before .new-line .ensures) (c .put2 .ensures))
 
 pub put-across-spec : {M : Type 1} → statement M
 put-across-spec = tie.close (tie.spec put-requires new-line-requires put-requires-2 returns)

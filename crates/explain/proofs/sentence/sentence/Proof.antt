@@ -21,15 +21,19 @@ end-line-requires c κs = search needs
 
 returns : tie.Need-returns
 returns c =
-    let top = c .before .before .before .before .before .before .before .top .ensures in
-    let all = follows-then (c .before .before .before .before .before .before .indent .ensures) (follows-then (c .before .before .before .put-parts .ensures) (c .before .end-line .ensures)) in
+    let at-top : tie.After-top = search in
+    let at-indent : tie.After-indent = search in
+    let top = at-top .top .ensures in
+    let all = follows-then (at-indent .indent .ensures) (follows-then (c .before .before .before .put-parts .ensures) (c .before .end-line .ensures)) in
     let laid = all .laid (laid-none _ _ (search needs) (top .0) (top .1) (top .2)) in
     (laid .size, narrow-none _)
 
 returns-2 : tie.Need-returns-2
 returns-2 c =
-    let top = c .before .before .before .before .before .before .before .top .ensures in
-    let all = follows-then (c .before .before .before .before .before .before .indent .ensures) (follows-then (c .before .before .before .put-parts .ensures) (c .before .end-line .ensures)) in
+    let at-top : tie.After-top = search in
+    let at-indent : tie.After-indent = search in
+    let top = at-top .top .ensures in
+    let all = follows-then (at-indent .indent .ensures) (follows-then (c .before .before .before .put-parts .ensures) (c .before .end-line .ensures)) in
     let laid = all .laid (laid-none _ _ (search needs) (top .0) (top .1) (top .2)) in
     (laid .size, laid .above)
 

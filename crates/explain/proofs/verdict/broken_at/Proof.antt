@@ -25,7 +25,7 @@ line-row-requires : tie.Need-line-row-requires
 unfolding Labelable
 line-row-requires c κs =
     let at-label = c .before .before .before in
-    let at-start = at-label .before .before .before .before in
+    let at-start : tie.Start = search in
     let labelled = at-label .label in
     let none = sym (at-start .pre) in
     rw (c .lines .ensures) (last-in _ _ _ (labelled .last .1 .1 .0) (labelled .result) (labelled .ensures) none)
@@ -38,7 +38,7 @@ unfolding Labelable
 returns c =
     let at-lines = c .before .before in
     let at-label = at-lines .before .before .before in
-    let at-start = at-label .before .before .before .before in
+    let at-start : tie.Start = search in
     let labelled = at-label .label in
     let none = sym (at-start .pre) in
     let row = c .before .line-row in

@@ -9,8 +9,9 @@ broken-at-requires c κs = search needs
 
 returns : tie.Need-returns
 returns c =
-    let a = c .before .before .before .before .before .args in
-    let apart = c .before .before .before .before .before .pre .apart in
+    let start : tie.Start = search in
+    let a = start .args in
+    let apart = start .pre .apart in
     let second = c .before .broken-at in
     judged-first (a .first .now) (a .second .now) (a .rule .now) apart (second .result) (second .ensures) (c .if1 .taken)
 
@@ -19,8 +20,9 @@ broken-at-requires-2 c κs = search needs
 
 returns-2 : tie.Need-returns-2
 returns-2 c =
-    let a = c .before .before .before .before .before .before .args in
-    let apart = c .before .before .before .before .before .before .pre .apart in
+    let start : tie.Start = search in
+    let a = start .args in
+    let apart = start .pre .apart in
     let second = c .before .before .broken-at in
     let first = c .broken-at2 in
     judged-second (a .first .now) (a .second .now) (a .rule .now) apart (second .result) (second .ensures) (c .before .if1 .left)

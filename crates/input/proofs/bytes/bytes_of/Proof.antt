@@ -45,8 +45,8 @@ loop-less c = search needs
 loop-again : tie.Need-loop-again Inv-loop μ-loop
 loop-again c =
     let at-put-word = c .before .before in
-    let at-loop = at-put-word .before .before .before .before in
-    let at-start = at-loop .before .before .before .before in
+    let at-loop : tie.At-loop Inv-loop μ-loop = search in
+    let at-start : tie.Start Inv-loop μ-loop = search in
     let start = at-start .args in
     let at = at-loop .loop in
     let put = at-put-word .put-word .ensures in

@@ -12,7 +12,7 @@ returns c = text-long (c .before .before .before .args .text .now) (c .before .b
 
 returns-2 : tie.Need-returns-2
 returns-2 c =
-    let start = c .before .before .before .before .args in
+    let entry : tie.Start = search in let start = entry .args in
     sheet-tight (start .text .now) (start .sheet .now) (c .before .if1 .left) (c .if2 .taken)
 
 slice-aggregate-words-of-text : tie.Need-slice-aggregate-words-of-text
@@ -26,13 +26,15 @@ enum-known-answer c = search needs
 
 array-share-prefix-words : tie.Need-array-share-prefix-words
 array-share-prefix-words c =
-    let read = c .before .before .before .before .words-of-text in
+    let at-words-of-text : tie.After-words-of-text = search in
+    let read = at-words-of-text .words-of-text in
     let got = got-words _ _ _ _ (sym (c .before .answer .given .1) ∙ read .ensures .0) (read .ensures .1) (read .kept .1 .0) in
     got .fits
 
 slice-aggregate-bytes-of : tie.Need-slice-aggregate-bytes-of
 slice-aggregate-bytes-of c =
-    let read = c .before .before .before .before .before .words-of-text in
+    let at-words-of-text : tie.After-words-of-text = search in
+    let read = at-words-of-text .words-of-text in
     let got = got-words _ _ _ _ (sym (c .before .before .answer .given .1) ∙ read .ensures .0) (read .ensures .1) (read .kept .1 .0) in
     sym (length-take-le _ (read .last .1 .0) (got .fits))
 
@@ -48,7 +50,7 @@ same-length c = search needs
 returns-3 : tie.Need-returns-3
 returns-3 c =
     let at-bytes-of = c .before .before in
-    let at-answer = at-bytes-of .before .before .before .before in
+    let at-answer : tie.After-answer = search in
     let at-words-of-text = at-answer .before .before .before in
     let at-if2 = at-words-of-text .before .before in
     let at-if1 = at-if2 .before in
@@ -64,7 +66,7 @@ returns-3 c =
 
 returns-4 : tie.Need-returns-4
 returns-4 c =
-    let at-words-of-text = c .before .before .before .before in
+    let at-words-of-text : tie.After-words-of-text = search in
     let at-if2 = at-words-of-text .before .before in
     let at-if1 = at-if2 .before in
     let at-start = at-if1 .before .before .before in

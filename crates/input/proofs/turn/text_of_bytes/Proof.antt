@@ -16,7 +16,7 @@ returns c = sheet-long (c .before .before .before .args .sheet .now) (c .before 
 
 returns-2 : tie.Need-returns-2
 returns-2 c =
-    let start = c .before .before .before .before .args in
+    let entry : tie.Start = search in let start = entry .args in
     sheet-odd (start .sheet .now) (start .text .now) (c .before .if1 .left) (c .if2 .taken)
 
 slice-aggregate-words-of : tie.Need-slice-aggregate-words-of
@@ -49,8 +49,8 @@ same-length c = search needs
 returns-3 : tie.Need-returns-3
 unfolding ofWritten
 returns-3 c =
-    let at-text-of-words = c .before .before .before .before .before in
-    let at-words-of = at-text-of-words .before .before .before .before in
+    let at-text-of-words : tie.After-text-of-words = search in
+    let at-words-of : tie.After-words-of = search in
     let at-if2 = at-words-of .before .before in
     let at-if1 = at-if2 .before in
     let at-start = at-if1 .before .before .before in
@@ -68,8 +68,8 @@ same-length-2 c = search needs
 returns-4 : tie.Need-returns-4
 unfolding ofWritten
 returns-4 c =
-    let at-text-of-words = c .before .before .before .before in
-    let at-words-of = at-text-of-words .before .before .before .before in
+    let at-text-of-words : tie.After-text-of-words = search in
+    let at-words-of : tie.After-words-of = search in
     let at-if2 = at-words-of .before .before in
     let at-if1 = at-if2 .before in
     let at-start = at-if1 .before .before .before in

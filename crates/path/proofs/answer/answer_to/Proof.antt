@@ -38,7 +38,7 @@ same-length-2 c = search needs
 
 returns-2 : tie.Need-returns-2
 returns-2 c =
-    let call = c .before .before .before .before in
+    let call : tie.After-path-lists = search in
     let two = call .before .before .before in
     let one = two .before .before in
     let tested = one .before .before in

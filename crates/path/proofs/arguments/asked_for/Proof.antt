@@ -51,7 +51,7 @@ returns-3 c =
 returns-4 : tie.Need-returns-4
 unfolding askedOf both
 returns-4 c =
-    let at-line = c .before .before .before .before in
+    let at-line : tie.After-line = search in
     let at-number-of2 = at-line .before .before in
     let at-number-of = at-number-of2 .before in
     let at-if1 = at-number-of .before in

@@ -29,14 +29,14 @@ wide-requires c κs = search needs
 
 returns-2 : tie.Need-returns-2 Inv-loop μ-loop
 returns-2 c =
-    let at = c .before .before .before .before in
+    let at : tie.At-loop Inv-loop μ-loop = search in
     let bytes = at .before .before .before .args .bytes .now in
     let digit = c .before .wide in
     too-low bytes (at .loop .value) (at .loop .i) (at .loop .inv .2) (search needs) (digit .result) (digit .ensures .0) (c .if2 .taken)
 
 returns-3 : tie.Need-returns-3 Inv-loop μ-loop
 returns-3 c =
-    let at = c .before .before .before .before .before in
+    let at : tie.At-loop Inv-loop μ-loop = search in
     let bytes = at .before .before .before .args .bytes .now in
     let digit = c .before .before .wide in
     too-high bytes (at .loop .value) (at .loop .i) (at .loop .inv .2) (search needs) (digit .result) (digit .ensures .0) (c .before .if2 .left) (search needs)
@@ -49,7 +49,7 @@ add-more c = search needs
 
 returns-4 : tie.Need-returns-4 Inv-loop μ-loop
 returns-4 c =
-    let at = c .before .before .before .before .before .before in
+    let at : tie.At-loop Inv-loop μ-loop = search in
     let bytes = at .before .before .before .args .bytes .now in
     let digit = c .before .before .before .wide in
     too-large bytes (at .loop .value) (at .loop .i) (at .loop .inv .2) (search needs) (digit .result) (digit .ensures .0) (c .before .before .if2 .left) (c .before .if3 .left) (c .if4 .taken)
@@ -62,7 +62,7 @@ loop-less c = search needs
 
 loop-again : tie.Need-loop-again Inv-loop μ-loop
 loop-again c =
-    let at = c .before .before .before .before .before .before in
+    let at : tie.At-loop Inv-loop μ-loop = search in
     let bytes = at .before .before .before .args .bytes .now in
     let digit = c .before .before .before .wide in
     let more = one-more bytes (at .loop .value) (at .loop .i) (at .loop .inv .2) (search needs) (digit .result) (digit .ensures .0) (c .before .before .if2 .left) (c .before .if3 .left) (c .if4 .left) in
@@ -72,7 +72,9 @@ cast-t14 : tie.Need-cast-t14 Inv-loop μ-loop
 cast-t14 c = search needs
 
 returns-5 : tie.Need-returns-5 Inv-loop μ-loop
-returns-5 c = all-read (c .before .before .before .before .args .bytes .now) (c .before .loop .value) (c .before .loop .i) (c .before .loop .inv .2) (search needs)
+returns-5 c =
+    let start : tie.Start Inv-loop μ-loop = search in
+    all-read (start .args .bytes .now) (c .before .loop .value) (c .before .loop .i) (c .before .loop .inv .2) (search needs)
 
 pub number-of-spec : {M : Type 1} → statement M
 number-of-spec =

@@ -21,13 +21,15 @@ enum-known-reading c = search needs
 
 array-share-prefix-words : tie.Need-array-share-prefix-words
 array-share-prefix-words c =
-    let read = c .before .before .before .before .words-of-text in
+    let at-words-of-text : tie.After-words-of-text = search in
+    let read = at-words-of-text .words-of-text in
     let got = got-words _ _ _ _ (sym (c .before .reading .given .1) ∙ read .ensures .0) (read .ensures .1) (read .kept .1 .0) in
     got .fits
 
 slice-aggregate-check-words : tie.Need-slice-aggregate-check-words
 slice-aggregate-check-words c =
-    let read = c .before .before .before .before .before .words-of-text in
+    let at-words-of-text : tie.After-words-of-text = search in
+    let read = at-words-of-text .words-of-text in
     let got = got-words _ _ _ _ (sym (c .before .before .reading .given .1) ∙ read .ensures .0) (read .ensures .1) (read .kept .1 .0) in
     sym (length-take-le _ (read .last .1 .0) (got .fits))
 
@@ -39,14 +41,18 @@ enum-known-reading-2 c = search needs
 
 returns-2 : tie.Need-returns-2
 returns-2 c =
-    let read = c .before .before .before .before .before .before .words-of-text in
+    let at-words-of-text : tie.After-words-of-text = search in
+    let else1 : tie.Else1 = search in
+    let read = at-words-of-text .words-of-text in
     let got = got-words _ _ _ _ (sym (c .before .before .before .reading .given .1) ∙ read .ensures .0) (read .ensures .1) (read .kept .1 .0) in
-    Program.words (c .before .before .before .before .before .before .before .before .if1 .left) (got .is) (rw (got .head) at (c .check-words .ensures))
+    Program.words (else1 .if1 .left) (got .is) (rw (got .head) at (c .check-words .ensures))
 
 returns-3 : tie.Need-returns-3
 returns-3 c =
-    let faulty = got-fault _ _ _ (sym (c .before .reading2 .given .1) ∙ c .before .before .before .before .words-of-text .ensures .0) in
-    Program.fault (c .before .before .before .before .before .before .if1 .left) faulty
+    let at-words-of-text : tie.After-words-of-text = search in
+    let else1 : tie.Else1 = search in
+    let faulty = got-fault _ _ _ (sym (c .before .reading2 .given .1) ∙ at-words-of-text .words-of-text .ensures .0) in
+    Program.fault (else1 .if1 .left) faulty
 
 pub check-text-spec : {M : Type 1} → statement M
 check-text-spec =

@@ -19,7 +19,8 @@ returns c =
 
 returns-2 : tie.Need-returns-2
 returns-2 c =
-    let count = c .before .before .before .before .args .count in
+    let start : tie.Start = search in
+    let count = start .args .count in
     rw (ne-eqb count 2 (c .before .if1 .left), ne-eqb count 3 (c .if2 .taken))
 
 slice-aggregate-same : tie.Need-slice-aggregate-same
@@ -30,18 +31,23 @@ same-requires c κs = search needs
 
 returns-3 : tie.Need-returns-3
 returns-3 c =
-    let count = c .before .before .before .before .before .before .before .args .count in
+    let start : tie.Start = search in
+    let else1 : tie.Else1 = search in
+    let count = start .args .count in
     let other = is-same _ _ _ (c .before .same .ensures) ∙ not-true _ (c .if3 .taken) in
-    rw (ne-eqb count 2 (c .before .before .before .before .if1 .left), eq-eqb count 3 (c .before .before .before .if2 .left), other)
+    rw (ne-eqb count 2 (else1 .if1 .left), eq-eqb count 3 (c .before .before .before .if2 .left), other)
 
 check-of-requires-2 : tie.Need-check-of-requires-2
 check-of-requires-2 c κs = search needs
 
 returns-4 : tie.Need-returns-4
 returns-4 c =
-    let count = c .before .before .before .before .before .before .before .before .args .count in
+    let start : tie.Start = search in
+    let else1 : tie.Else1 = search in
+    let else2 : tie.Else2 = search in
+    let count = start .args .count in
     let text = is-same _ _ _ (c .before .before .same .ensures) ∙ not-false _ (c .before .if3 .left) in
-    rw (ne-eqb count 2 (c .before .before .before .before .before .if1 .left), eq-eqb count 3 (c .before .before .before .before .if2 .left), text)
+    rw (ne-eqb count 2 (else1 .if1 .left), eq-eqb count 3 (else2 .if2 .left), text)
     (c .check-of2 .ensures)
 
 pub asked-for-spec : {M : Type 1} → statement M

@@ -1,4 +1,4 @@
--- `tail_for` meets its contract: the tail that is given where it may be used, and else none.
+-- `tail_for` meets its contract: the tail that is given where the record is a sheet's, and else none.
 use borrow.Author.Needs.{needs}
 use mathlib.Core.Path.{refl}
 use mathlib.Core.Logic.{inl, inr}
