@@ -5,7 +5,7 @@ use Prim.Native.Nat.{ℕ, _+_, _*_, _≤_}
 use mathlib.Core.List.{List, [], _∷_, _++_}
 use lib.ListN.{length, take, drop}
 use lib.Dec.{T, leb, eqb}
-use Rattle.truth.specs.Passed.{none, firstNo, Question, ask, nodes, signals, lent, lifted, ruleRefusal, overSignals, lines, nodesMost, nextHead, linesWritten, ruleSpace}
+use Rattle.truth.specs.Passed.{none, firstNo, Question, ask, nodes, signals, lent, lifted, ruleRefusal, overSignals, lines, nodesMost, nextStates, nextTransitions, nextHead, linesWritten, ruleSpace}
 use Rattle.truth.specs.Truth.{Keeps}
 use Rattle.truth.specs.Sizes.{rowWords}
 use Rattle.truth.specs.Labelling.{labelQuestions}
@@ -38,7 +38,7 @@ nextWords =
 
 -- the words before the lines of a rule with l lines: the header, the record of one automaton, and Next
 abbrev pub ruleHead : ℕ → List ℕ
-ruleHead l = 1 ∷ 4 ∷ 5 ∷ l ∷ 1 ∷ 1 ∷ nextWords
+ruleHead l = 1 ∷ nextStates ∷ nextTransitions ∷ l ∷ 1 ∷ 1 ∷ nextWords
 
 -- questions 20 to 22, of a space of so many words: "Are both a equal?", "Do the nodes sum to at most 128?", "Has the rule space at least
 -- 33 + 6 × (a + 7N) words?"

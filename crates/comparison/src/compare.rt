@@ -34,8 +34,8 @@ pub enum Answer {
 // The words of a written rule before its lines: the header, of which the number of lines is put in, and the automaton Next.
 const NEXT: [u16; sizes::NEXT_HEAD] = [
     1,
-    4,
-    5,
+    header::NEXT_STATES,
+    header::NEXT_TRANSITIONS,
     0,
     1,
     1,

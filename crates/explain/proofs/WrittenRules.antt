@@ -2,7 +2,7 @@
 use mathlib.Core.Path.{_≡_, sym, ap, _∙_}
 use Prim.Native.Nat.{ℕ, _+_, _*_, _≤_}
 use native.Mathlib.Omega.{arith}
-use mathlib.Core.List.{List, _∷_}
+use mathlib.Core.List.{List}
 use lib.ListN.{length, getD, take, drop, length-append, List·getD-append}
 use lib.Seq.{take-at, getD-take}
 use lib.Dec.{eqb→eq}
@@ -13,7 +13,7 @@ use Rattle.sheets.specs.Rules.{lent, lines, q8}
 use Rattle.sheets.proofs.Questions.{rule-answers}
 use Rattle.sheets.proofs.AcceptedMachine.{signals-sized}
 use Rattle.truth.specs.Sizes.{rowWords}
-use Rattle.comparison.specs.Comparison.{Written, nextWords}
+use Rattle.comparison.specs.Comparison.{Written, ruleHead}
 use Rattle.comparison.specs.CompareAnswers.{comparisonQuestions}
 use Rattle.comparison.proofs.CompareTable.{Compared, compared}
 use Rattle.explain.specs.Verdicts.{Labelable, Telling}
@@ -21,7 +21,7 @@ use Rattle.explain.specs.Verdicts.{Labelable, Telling}
 module _ (M₁ M₂ R before after : List ℕ) (w : Written M₁ M₂ R before after) where
   -- ---- where it ends
 
-  head-word : (i : ℕ) → i + 1 ≤ nextHead → word R i ≡ getD (1 ∷ 4 ∷ 5 ∷ lines R ∷ 1 ∷ 1 ∷ nextWords) i 0
+  head-word : (i : ℕ) → i + 1 ≤ nextHead → word R i ≡ getD (ruleHead (lines R)) i 0
   unfolding word
   head-word i h = sym (getD-take nextHead R i 0 (omega arith)) ∙ ap (λ (l : List ℕ). getD l i 0) (w .head)
 

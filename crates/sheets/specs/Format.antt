@@ -158,11 +158,17 @@ rulesLongest = rulesLength lineWords automataMost statesMost transitionsMost lin
 abbrev pub sheetsLongest : ℕ
 sheetsLongest = machineLongest + rulesLongest
 
--- ---- a written rule: the words before its lines, which are those of the automaton Next with its 4 states and 5 transitions; the most lines
--- for a signals and N nodes; and the space for them
+-- ---- a written rule: the states and transitions of its one automaton, Next; the words before its lines; the most lines for a signals and
+-- N nodes; and the space for them
+
+abbrev pub nextStates : ℕ
+nextStates = 4
+
+abbrev pub nextTransitions : ℕ
+nextTransitions = 5
 
 abbrev pub nextHead : ℕ
-nextHead = linesFrom 1 4 5
+nextHead = linesFrom 1 nextStates nextTransitions
 
 abbrev pub linesWritten : ℕ → ℕ → ℕ
 linesWritten a N = a + 7 * N

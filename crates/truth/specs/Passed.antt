@@ -1,6 +1,6 @@
 -- What the crate above cites of the sheet reader's definitions, passed on.
 pub use Rattle.sheets.specs.Questions.{Refusal, Question, ask}
-pub use Rattle.sheets.specs.Format.{nodesMost, signalsMost, linesMost, ruleHeader, lineWords, operationPlace, operandPlace, argumentPlace, lineRecord, nextHead, linesWritten, ruleSpace}
+pub use Rattle.sheets.specs.Format.{nodesMost, signalsMost, linesMost, ruleHeader, lineWords, operationPlace, operandPlace, argumentPlace, lineRecord, nextStates, nextTransitions, nextHead, linesWritten, ruleSpace}
 pub use Rattle.sheets.specs.Operations.{signalOperation, negationOperation, eitherOperation, somePathOperation}
 pub use Rattle.sheets.specs.Structures.{Kripke, Automaton, Line, signal, negation, either, somePath, somePathNot, malformed}
 pub use Rattle.sheets.specs.Words.{within}

@@ -7,10 +7,15 @@ use sheets::lines;
 use sheets::machine;
 use sheets::rules;
 
-// Passed on: the most nodes, the words of a line record, and the words of a written rule before its lines.
+// Passed on: the most nodes, the words of a line record; the states and transitions of a written rule's automaton, and the words before its
+// lines.
 pub const NODES: usize = format::NODES;
 
 pub const LINE_WORDS: usize = format::LINE_WORDS as usize;
+
+pub const NEXT_STATES: u16 = format::NEXT_STATES as u16;
+
+pub const NEXT_TRANSITIONS: u16 = format::NEXT_TRANSITIONS as u16;
 
 pub const NEXT_HEAD: usize = format::NEXT_HEAD;
 

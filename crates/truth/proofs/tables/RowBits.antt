@@ -1,7 +1,7 @@
 -- The row of a line in the lent space, as `Labelling` reads it, is the row of two words that the code loads.
 use mathlib.Core.Path.{_≡_, sym}
 use mathlib.Core.Logic.{⊎-elim}
-use Prim.Native.Nat.{ℕ, suc, _-_, _/_, _%_, _≤_, _<_}
+use Prim.Native.Nat.{ℕ, _-_, _/_, _%_, _≤_, _<_}
 use native.Mathlib.Nat.{add-zero}
 use native.Mathlib.Omega.{arith}
 use mathlib.Core.List.{List}
