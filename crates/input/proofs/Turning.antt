@@ -9,7 +9,7 @@ use lib.Seq.{take-length}
 use borrow.Author.Tests.{lt-ltb, le-ltb, eq-eqb, ne-eqb}
 use Rattle.text.specs.Texts.{Read, words, fault, readingOf}
 use lib.Dec.{leb, ltb, eqb}
-use Rattle.text.specs.Layout.{textOf, writtenOf, textLeft}
+use Rattle.text.specs.Layout.{wordBytes, textOf, writtenOf, textLeft}
 use Rattle.text.specs.declared.read.Place.{Place}
 use Rattle.text.specs.declared.read.Kind.{Kind}
 use Rattle.text.specs.declared.write.Written.{Written}
@@ -112,7 +112,7 @@ module _ (count : ℕ) (lent left : List ℕ) (size : length left ≡ length len
 
   fits-written : (ws : List ℕ) → Fits (record { answer = ofWritten (writtenOf ws lent); left = textLeft ws lent })
   unfolding writtenOf textLeft ofWritten
-  fits-written ws = by (leb (6 * length ws) (length lent))
+  fits-written ws = by (leb (wordBytes * length ws) (length lent))
     where
       by : (room : Bool) → Fits (record {
         answer = ofWritten (cond room (Written.Text (length (textOf ws))) Written.NoRoom);

@@ -18,6 +18,7 @@ use libc::STDOUT_FILENO;
 use sheets::checks::Check;
 use text::read::Kind;
 use text::read::Place;
+use text::write;
 
 fn main() {
     let mut first = [0u8; 8];
@@ -62,7 +63,7 @@ fn bytes() {
 fn text() {
     let mut sheet = [0u8; limits::SHEETS_BYTES + 1];
     let n = io::read_full(STDIN_FILENO, &mut sheet);
-    let mut text = [0u8; 6 * limits::SHEETS_WORDS];
+    let mut text = [0u8; write::WORD_BYTES * limits::SHEETS_WORDS];
     let turned = turned_text(&sheet[..n], &mut text);
     tell(turned, &text, b"more than 29006 bytes, 14503 words\n");
 }

@@ -9,14 +9,14 @@ use lib.Seq.{paste, drop-cons, drop-length, take-append-seam, take-paste, drop-p
 use borrow.Author.Tests.{le-leb, lt-leb}
 use Rattle.text.specs.Decimals.{decimal}
 use Rattle.text.specs.Lines.{Holds, Adds}
-use Rattle.text.specs.Layout.{enderOf, wordText, textFrom, textOf, writtenOf, textLeft}
+use Rattle.text.specs.Layout.{enderOf, wordText, wordBytes, textFrom, textOf, writtenOf, textLeft}
 use Rattle.text.specs.declared.line.Line.{Line}
 use Rattle.text.specs.declared.write.Written.the-variants.{Text, NoRoom}
 use Rattle.text.proofs.Decimals.{decimal-length}
 use Rattle.text.proofs.HeldLines.{holds-added, adds-then}
 
 -- a word and a blank are at most six bytes
-pub word-most : (word blank : ℕ) → word < 65536 → length (wordText word blank) ≤ 6
+pub word-most : (word blank : ℕ) → word < 65536 → length (wordText word blank) ≤ wordBytes
 word-most word blank small = let digits = decimal-length 4 word (omega arith) in simp length-append (omega arith)
 
 pub word-held : (none digits line : Line) (word blank : ℕ) → word < 65536 → Holds none [] → Adds none (decimal word) digits
@@ -35,9 +35,9 @@ pub record Wrote (ws lent : List ℕ) (i at : ℕ) (list : List ℕ) : Type 0 wh
   pub whole : textOf ws ≡ take at list ++ textFrom (suc i) (drop i ws)
   pub behind : drop at list ≡ drop at lent
   pub size : length list ≡ length lent
-  pub room : at + 6 * (length ws - i) ≤ length lent
+  pub room : at + wordBytes * (length ws - i) ≤ length lent
 
-pub wrote-none : (ws lent : List ℕ) → 6 * length ws ≤ length lent → Wrote ws lent 0 0 lent
+pub wrote-none : (ws lent : List ℕ) → wordBytes * length ws ≤ length lent → Wrote ws lent 0 0 lent
 unfolding textOf
 wrote-none ws lent h = record { whole = refl; behind = refl; size = refl; room = omega arith }
 
@@ -48,7 +48,7 @@ unfolding textFrom
 text-on ws i h = rw (add-one, drop-cons ws i 0, length-drop)
 
 module _ (ws lent list t : List ℕ) (i at : ℕ) (h : i < length ws) (w : Wrote ws lent i at list)
-    (is : t ≡ wordText (getD ws i 0) (enderOf (i + 1) (length ws - (i + 1)))) (most : length t ≤ 6) where
+    (is : t ≡ wordText (getD ws i 0) (enderOf (i + 1) (length ws - (i + 1)))) (most : length t ≤ wordBytes) where
   pub text-fits : at + length t ≤ length list
   text-fits = omega (arith, w .size, w .room)
 
@@ -74,12 +74,12 @@ wrote-all ws lent list i at end w =
     (sym (ap length all ∙ size), rw (all, size, ← w .behind) (sym (take-append-drop at list)))
 
 -- the answer and what it leaves, with and without room
-pub text-written : (ws lent list : List ℕ) (at : ℕ) → 6 * length ws ≤ length lent
+pub text-written : (ws lent list : List ℕ) (at : ℕ) → wordBytes * length ws ≤ length lent
     → (at ≡ length (textOf ws)) × (list ≡ textOf ws ++ drop (length (textOf ws)) lent)
     → (Text at ≡ writtenOf ws lent) × (list ≡ textLeft ws lent)
 unfolding writtenOf textLeft
-text-written ws lent list at room all = let roomy = le-leb (6 * length ws) (length lent) room in (rw (roomy, all .0), rw roomy (all .1))
+text-written ws lent list at room all = let roomy = le-leb (wordBytes * length ws) (length lent) room in (rw (roomy, all .0), rw roomy (all .1))
 
-pub text-refused : (ws lent : List ℕ) → length lent < 6 * length ws → (NoRoom ≡ writtenOf ws lent) × (lent ≡ textLeft ws lent)
+pub text-refused : (ws lent : List ℕ) → length lent < wordBytes * length ws → (NoRoom ≡ writtenOf ws lent) × (lent ≡ textLeft ws lent)
 unfolding writtenOf textLeft
-text-refused ws lent short = let tight = lt-leb (6 * length ws) (length lent) short in (rw tight, rw tight)
+text-refused ws lent short = let tight = lt-leb (wordBytes * length ws) (length lent) short in (rw tight, rw tight)

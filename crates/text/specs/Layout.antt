@@ -25,10 +25,14 @@ textFrom number (w ∷ ws) = wordText w (enderOf number (length ws)) ++ textFrom
 unfoldable pub textOf : List ℕ → List ℕ
 textOf ws = textFrom 1 ws
 
--- the answer: the text's length where there are six bytes for each word
+-- the bytes that are asked for each word: five digits and a blank
+abbrev pub wordBytes : ℕ
+wordBytes = 6
+
+-- the answer: the text's length where there are as many
 unfoldable pub writtenOf : List ℕ → List ℕ → Written
-writtenOf ws lent = cond (leb (6 * length ws) (length lent)) (Text (length (textOf ws))) NoRoom
+writtenOf ws lent = cond (leb (wordBytes * length ws) (length lent)) (Text (length (textOf ws))) NoRoom
 
 -- the lent bytes after it: the text at their head, or all as they were
 unfoldable pub textLeft : List ℕ → List ℕ → List ℕ
-textLeft ws lent = cond (leb (6 * length ws) (length lent)) (textOf ws ++ drop (length (textOf ws)) lent) lent
+textLeft ws lent = cond (leb (wordBytes * length ws) (length lent)) (textOf ws ++ drop (length (textOf ws)) lent) lent

@@ -3,9 +3,12 @@ ghost use mathlib.Core.List.{[], _∷_};
 ghost use Rattle.text.specs.Decimals.{decimal};
 ghost use Rattle.text.specs.Lines.{Holds, Adds};
 
+// The bytes that a line has room for.
+pub const ROOM: usize = 20;
+
 // A line of `len` bytes, held at the head of the array; the places past it are 0.
 pub struct Line {
-    pub bytes: [u8; 20],
+    pub bytes: [u8; ROOM],
     pub len: usize,
 }
 
@@ -15,7 +18,7 @@ impl Line {
         ensures { λ r. ⌜ Holds r [] ⌝ }
     {
         Line {
-            bytes: [0u8; 20],
+            bytes: [0u8; ROOM],
             len: 0,
         }
     }
@@ -25,7 +28,7 @@ impl Line {
         ensures { λ r. ⌜ Adds self (byte ∷ []) r ⌝ }
     {
         let at = self.len;
-        if 20 <= at {
+        if ROOM <= at {
             return self;
         }
         let mut next = self;

@@ -4,23 +4,26 @@ ghost use mathlib.Core.Bool.{cond};
 ghost use Prim.Native.Nat.{_+_, _≤_};
 ghost use lib.ListN.{length};
 ghost use lib.Seq.{paste};
-ghost use Rattle.text.specs.Lines.{Holds};
-ghost use Rattle.text.specs.Layout.{enderOf, wordText, writtenOf, textLeft};
+ghost use Rattle.text.specs.Lines.{lineRoom, Holds};
+ghost use Rattle.text.specs.Layout.{enderOf, wordText, wordBytes, writtenOf, textLeft};
 use crate::line::Line;
 
-// The answer: how many bytes are written, or that there is less space than six bytes for each word.
+// The bytes that are asked for each word: five digits and a blank, which are always enough.
+pub const WORD_BYTES: usize = 6;
+
+// The answer: how many bytes are written, or that there is less space than is asked.
 pub enum Written {
     Text { count: usize },
     NoRoom,
 }
 
-// Puts the text of the words at the head of `text`, and answers how long it is; without six bytes for each word, which are always
-// enough, every byte stays as it is.
+// Puts the text of the words at the head of `text`, and answers how long it is; without the bytes that are asked for each word every
+// byte stays as it is.
 pub fn text_of_words(words: &[u16], text: &mut [u8]) -> Written
     ensures answer { λ r. ⌜ r ≡ writtenOf (now (words .entry)) (now (text .entry)) ⌝ }
     ensures left { λ r. ⌜ now (text .exit) ≡ textLeft (now (words .entry)) (now (text .entry)) ⌝ }
 {
-    if text.len() / 6 < words.len() {
+    if text.len() / WORD_BYTES < words.len() {
         return Written::NoRoom;
     }
     let mut at = 0;
@@ -49,7 +52,7 @@ fn ender(number: usize, left: usize) -> u8
 
 // Puts a word and a blank into `text` from a place on, and answers the place past them.
 fn put_word(text: &mut [u8], at: usize, word: u16, blank: u8) -> usize
-    requires { ⌜ at + 6 ≤ length (now text) ⌝ }
+    requires { ⌜ at + wordBytes ≤ length (now text) ⌝ }
     ensures { λ r. ⌜ r ≡ at + length (wordText word blank) ⌝ }
     ensures { λ r. ⌜ now (text .exit) ≡ paste (now (text .entry)) at (wordText word blank) (length (wordText word blank)) ⌝ }
 {
@@ -66,7 +69,7 @@ fn word_line(word: u16, blank: u8) -> Line
 
 // Puts a line into `text` from a place on, and answers the place past it.
 fn put_line(text: &mut [u8], at: usize, line: Line) -> usize
-    requires { ⌜ (line .len ≤ 20) × (at + line .len ≤ length (now text)) ⌝ }
+    requires { ⌜ (line .len ≤ lineRoom) × (at + line .len ≤ length (now text)) ⌝ }
     ensures { λ r. ⌜ r ≡ at + line .len ⌝ }
     ensures { λ r. ⌜ now (text .exit) ≡ paste (now (text .entry)) at (line .bytes) (line .len) ⌝ }
 {

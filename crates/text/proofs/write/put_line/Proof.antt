@@ -7,6 +7,7 @@ use native.Mathlib.Omega.{arith}
 use lib.ListN.{length, length-set}
 use lib.Seq.{paste, paste-zero, paste-suc}
 use borrow.Author.Needs.{needs}
+use Rattle.text.specs.Lines.{lineRoom}
 use Rattle.text.proofs.write.put_line.Statement.{statement}
 use Rattle.text.proofs.write.put_line.Tie as tie
 
@@ -38,7 +39,7 @@ loop-again : tie.Need-loop-again Inv-loop μ-loop
 loop-again c =
     let start = c .before .before .before .args in
     let at = c .before .loop in
-    let size : length (start .line .bytes) ≡ 20 = search needs in
+    let size : length (start .line .bytes) ≡ lineRoom = search needs in
     let more = paste-suc (start .text .now) (start .at) (start .line .bytes) (at .k) 0 (omega arith) (omega arith) in
     (search needs, simp length-set (at .inv .1), rw (at .inv .2, add-one) more)
 
