@@ -3,6 +3,7 @@ mod answer; // answer.rt: what is answered to the input, and the line that says 
 
 use input::limits;
 use libc::STDIN_FILENO;
+use text::say;
 
 // Reads one byte more than is taken, so that a longer input is noticed.
 fn main() {

@@ -2,4 +2,3 @@
 pub mod ToldRules
 pub mod WrittenRules
 pub mod Explanations
-pub mod Pages

@@ -1,4 +1,3 @@
 -- The definitions of the explaining program.
 pub mod Verdicts
 pub mod Program
-pub mod Pages

@@ -2,9 +2,6 @@
 // it, and the start node where the other breaks it.
 mod verdict; // verdict.rt: which machine keeps a rule, and where the other breaks it
 mod answer; // answer.rt: what is said of the input, and the rule left in the space
-mod page; // page.rt: lines of text in a lent space
-mod parts; // parts.rt: what holds together where a line holds
-mod sentence; // sentence.rt: the rule as one sentence
 mod printing; // printing.rt: the answer in words
 
 use input::limits;

@@ -8,6 +8,7 @@ use answer::Answer;
 use input::limits;
 use libc::STDIN_FILENO;
 use sheets::format;
+use text::say;
 use truth::labelling::Labelled;
 use truth::sizes;
 

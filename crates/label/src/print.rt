@@ -3,6 +3,7 @@ ghost use Prim.Native.Nat.{_*_, _≤_};
 ghost use lib.ListN.{length};
 ghost use Rattle.truth.specs.Sizes.{rowWords};
 use libc::STDOUT_FILENO;
+use text::say;
 use truth::rows::Row;
 use truth::tables::line_row;
 

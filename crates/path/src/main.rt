@@ -9,6 +9,7 @@ use arguments::Asked;
 use input::limits;
 use libc::STDERR_FILENO;
 use libc::STDIN_FILENO;
+use text::say;
 use truth::path::Shown;
 use truth::sizes;
 

@@ -1,6 +1,7 @@
 // What is printed of a path.
 ghost use Prim.Native.Nat.{_≤_, _<_};
 ghost use lib.ListN.{length};
+use text::say;
 
 // `no path: the line is false at node 2`
 pub fn no_path(node: u16) {

@@ -18,6 +18,7 @@ use libc::STDOUT_FILENO;
 use sheets::checks::Check;
 use text::read::Kind;
 use text::read::Place;
+use text::say;
 use text::write;
 
 fn main() {

@@ -1,0 +1,2 @@
+-- The laws of pages.
+pub mod Pages

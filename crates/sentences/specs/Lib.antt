@@ -1,0 +1,2 @@
+-- The definitions of pages.
+pub mod Pages
