@@ -34,8 +34,8 @@ fn print_line(rule: &[u16], j: u16) {
     text(b"\n");
 }
 
-// What line j says. The one automaton of a written rule is Next, so that a path line speaks of the next nodes; the line of its one
-// variable is word 2 of the record.
+// What line j says. The one automaton of a written rule is Next, so that a path line speaks of the next nodes; its first argument is the
+// line of the one variable.
 fn print_meaning(rule: &[u16], j: u16) {
     let decoded = lines::decode(rule, j);
     let Decoded::Formed(line) = decoded else {

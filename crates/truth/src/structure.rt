@@ -135,10 +135,10 @@ fn chain_row(m: &[u16], x: u16, tail: Tail) -> Row
     if x as u64 == tail.at {
         return tail.row;
     }
-    let from = machine::edges_from(m);
     let e = machine::edges(m);
     let known = tail_for(tail, x, e);
     let none = no_targets(known.at);
+    let from = machine::edges_from(m);
     let found = targets_along(m, from, format::EDGE_WORDS, x, e, none);
     let row = found.row;
     if found.link == found.stop {

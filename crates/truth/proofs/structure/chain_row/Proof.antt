@@ -15,14 +15,18 @@ use Rattle.truth.proofs.structure.chain_row.Tie as tie
 abbrev begun : tie.After-targets-along → tie.Start
 begun c = search
 
+abbrev tailed : tie.After-targets-along → tie.After-tail-for
+tailed c = search
+
 -- what the walk gathers
 gathered : (c : tie.After-targets-along) (t : ℕ) → let start = begun c in let r = c .targets-along .result in let whole = within 1 membersMost t && chainLeads (start .args .m .now) (start .args .x) t in
-    (r .link ≡ r .stop → (rowHas (r .row) t || rowHas (c .before .before .tail-for .result .row) t) ≡ whole) × (r .link ≢ r .stop → rowHas (r .row) t ≡ whole)
+    (r .link ≡ r .stop → (rowHas (r .row) t || rowHas (tailed c .tail-for .result .row) t) ≡ whole) × (r .link ≢ r .stop → rowHas (r .row) t ≡ whole)
 gathered c =
-    let after-edges-from : tie.After-edges-from = search in let start : tie.Start = search in let a = start .args in
-    let used = c .before .before .tail-for in
-    let none = c .before .no-targets in
-    let edges = c .before .before .before .edges in
+    let after-edges-from : tie.After-edges-from = search in let after-no-targets : tie.After-no-targets = search in
+    let after-edges : tie.After-edges = search in let start : tie.Start = search in let a = start .args in
+    let used = tailed c .tail-for in
+    let none = after-no-targets .no-targets in
+    let edges = after-edges .edges in
     let small : edges .result < linksEnd = search needs in
     let of = tail-used (a .m .now) (a .tail) (used .result) (a .x) (edges .result) (start .pre) (used .ensures) in
     chain-until (a .m .now) (used .result) (of .0) _ (edges .result) (a .x) (none .result) (c .targets-along .result) (after-edges-from .edges-from .ensures) (edges .ensures) small (of .1)
@@ -33,9 +37,6 @@ returns c t =
     let start : tie.Start = search in
     subst (λ y. rowHas (start .args .tail .row) t ≡ (within 1 membersMost t && chainLeads (start .args .m .now) y t)) (sym (c .before .if1 .taken)) (start .pre .leads t)
 
-edges-from-requires : tie.Need-edges-from-requires
-edges-from-requires c κs = search needs
-
 edges-requires : tie.Need-edges-requires
 edges-requires c κs = search needs
 
@@ -44,6 +45,9 @@ tail-for-requires c κs = search needs
 
 no-targets-requires : tie.Need-no-targets-requires
 no-targets-requires c κs = search needs
+
+edges-from-requires : tie.Need-edges-from-requires
+edges-from-requires c κs = search needs
 
 targets-along-requires : tie.Need-targets-along-requires
 targets-along-requires c κs = search needs
@@ -64,10 +68,10 @@ chain-row-spec =
     tie.close
     (tie.spec
     returns
-    edges-from-requires
     edges-requires
     tail-for-requires
     no-targets-requires
+    edges-from-requires
     targets-along-requires
     union-requires
     returns-2
