@@ -23,7 +23,7 @@ uint16_t toqshenay_check_machine(const uint16_t *machine, size_t machine_length)
 uint16_t toqshenay_check_rules(const uint16_t *rules, size_t rules_length);
 
 /* Labelling: two words of 64 bits a line go to rows; *kept is 1 or 0, *count the number of true nodes of the last line, *percent its
- * whole percent among the nodes. Refused: rows are unchanged, and the numbers are 0. */
+ * whole percent among the nodes, a half rounded to the even number. Refused: rows are unchanged, and the numbers are 0. */
 uint16_t toqshenay_label(const uint16_t *machine, size_t machine_length, const uint16_t *rules, size_t rules_length,
                          uint64_t *rows, size_t rows_length, uint16_t *sheet, uint16_t *kept, uint32_t *count, uint32_t *percent);
 

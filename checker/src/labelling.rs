@@ -46,11 +46,12 @@ fn row_words(row: &[bool]) -> [u64; ROW_WORDS] {
     words
 }
 
-/// The whole percent of `count` among `nodes`, a half rounded up: the greatest p such that
-/// p - 1/2 percent of the nodes are at most `count`.
+/// The whole percent of `count` among `nodes`, a half rounded to the even neighbour: of the whole
+/// numbers the nearest, and of two that are equally near the even one.
 fn percent(count: usize, nodes: usize) -> usize {
-    let reaches = |p: &usize| (2 * p - 1) * nodes <= 200 * count;
-    (1..=100).rev().find(reaches).unwrap_or(0)
+    (0..=100)
+        .min_by_key(|p| ((p * nodes).abs_diff(100 * count), p % 2))
+        .unwrap_or(0)
 }
 
 #[cfg(test)]
@@ -58,6 +59,7 @@ mod tests {
     use super::*;
     use crate::format::NODES;
     use crate::worked;
+    use std::cmp::Ordering;
 
     #[test]
     fn marked_case_k_one_of_eight_nodes() {
@@ -67,31 +69,57 @@ mod tests {
         let expected = Labelling::Done {
             kept: true,
             count: 1,
-            percent: 13,
+            percent: 12,
         };
         assert_eq!(answer, expected);
         assert_eq!(space, [1, 0, u64::MAX, u64::MAX]);
     }
 
     #[test]
-    fn percents_round_a_half_up() {
+    fn percents_round_a_half_to_the_even_neighbour() {
         let cases = [
             (0, 1, 0),
             (1, 1, 100),
             (1, 2, 50),
             (1, 3, 33),
             (2, 3, 67),
-            (1, 8, 13),
+            (1, 8, 12),
             (3, 8, 38),
+            (5, 8, 62),
+            (7, 8, 88),
+            (1, 40, 2),
+            (3, 40, 8),
+            (5, 40, 12),
+            (39, 40, 98),
             (1, NODES, 1),
             (NODES - 1, NODES, 99),
             (NODES, NODES, 100),
-            (5, 40, 13),
             (49, 100, 49),
         ];
         for (count, nodes, expected) in cases {
             assert_eq!(percent(count, nodes), expected, "{count} of {nodes}");
         }
+    }
+
+    // By quotient and rest, as the request has it.
+    #[test]
+    fn every_percent_is_the_quotient_rounded() {
+        let mut halves = [0, 0];
+        for nodes in 1..=NODES {
+            for count in 0..=nodes {
+                let (quotient, rest) = (100 * count / nodes, 100 * count % nodes);
+                let rounded = match (2 * rest).cmp(&nodes) {
+                    Ordering::Less => quotient,
+                    Ordering::Greater => quotient + 1,
+                    Ordering::Equal => {
+                        halves[quotient % 2] += 1;
+                        quotient + quotient % 2
+                    }
+                };
+                assert_eq!(percent(count, nodes), rounded, "{count} of {nodes}");
+            }
+        }
+        assert!(halves[0] > 0 && halves[1] > 0, "halves of both kinds");
     }
 
     #[test]

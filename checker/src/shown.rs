@@ -149,7 +149,7 @@ mod tests {
         let ring = read(worked::ring_of_eight(), worked::signal_alone()).expect("accepted sheets");
         let last = labels(&ring);
         assert!(
-            last.ends_with("\ntrue at 1 of 8 nodes, 13 percent\n"),
+            last.ends_with("\ntrue at 1 of 8 nodes, 12 percent\n"),
             "{last}"
         );
     }

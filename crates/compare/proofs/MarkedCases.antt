@@ -61,7 +61,7 @@ pub record Marked : Type 0 where
   pub h : ruleRefusal lent PartialSheet ≡ 13
   pub i : machineRefusal SelfLinked ≡ 5
   pub j : machineRefusal ExtraSignal ≡ 3
-  pub k : percent 1 8 ≡ 13
+  pub k : percent 1 8 ≡ 12
 
 -- end result
 pub marked : Marked

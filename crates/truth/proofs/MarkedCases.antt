@@ -1,9 +1,9 @@
--- The marked cases of document 01 on truth: (e) Even on M3, (f) automata with no variable, (k) the percent of 1 of 8. Of (e) and (f) also
+-- The marked cases of document 01 on truth: (e) Even on M3, (f) automata with no variable, (k) the percent of 1 of 8, and of 3 of 8. Of (e) and (f) also
 -- what labelling answers.
 use mathlib.Core.Path.{_≡_, refl, sym, ap, subst, _∙_}
 use mathlib.Core.Logic.{_↔_}
 use Prim.Native.Nat.{ℕ, zero, suc, _-_, _*_, _≤_, _<_}
-use native.Mathlib.Nat.{add-zero, div-eq-of-lt-le}
+use native.Mathlib.Nat.{add-zero}
 use native.Mathlib.Numerals.{add-one}
 use native.Mathlib.Omega.{arith}
 use mathlib.Core.List.{List}
@@ -25,13 +25,18 @@ use Rattle.truth.specs.inner.Product.{argument}
 use Rattle.truth.specs.Worked.{EvenSheet, OneState, Labels}
 use Rattle.truth.proofs.labelling.StartRows.{some-start}
 use Rattle.truth.proofs.labelling.LabelCounts.{number-same}
+use Rattle.truth.proofs.labelling.Percents.{percent-exact}
 use Rattle.truth.proofs.labelling.LabelledSheets.{labels}
 
 -- ---- (k)
 
-pub case-k : percent 1 8 ≡ 13
+pub case-k : percent 1 8 ≡ 12
 unfolding percent
 case-k = refl
+
+pub three-of-eight : percent 3 8 ≡ 38
+unfolding percent
+three-of-eight = refl
 
 -- where one transition is left, it is the one taken
 only : (a b : Bool) → T ((a && b) || false) → T b
@@ -62,14 +67,6 @@ none-pass (suc n) = add-zero (number n (λ s. false)) ∙ none-pass n
 
 all-pass : (n : ℕ) → number n (λ s. leb s n) ≡ n
 all-pass n = number-same n (λ s. leb s n) (λ s. true) (λ s lo hi. le-leb s n hi) ∙ each-one n
-
-whole-percent : (n : ℕ) → 1 ≤ n → percent n n ≡ 100
-unfolding percent
-whole-percent n lo = div-eq-of-lt-le (2 * n) (omega arith) (omega arith)
-
-no-percent : (n : ℕ) → 1 ≤ n → percent 0 n ≡ 0
-unfolding percent
-no-percent n lo = div-eq-of-lt-le (2 * n) (omega arith) (omega arith)
 
 module _ (M : List ℕ) (accepted : machineRefusal M ≡ 0) where
   -- the first edge of each node, for ever
@@ -128,7 +125,7 @@ module _ (M : List ℕ) (accepted : machineRefusal M ≡ 0) where
       labels M (OneState 1) accepted one-accepted tt (λ j s. leb s (nodes M))
       (λ j s lo hi l h. let e : j ≡ 1 = one-line 1 j s lo hi in (λ t. rw e (case-f-true s l h), λ t. subst T (sym (le-leb s (nodes M) h)) tt))
       (λ j s over. lt-leb s (nodes M) over) true (λ t s k. let h = start-node M s k in case-f-true s (h .0) (h .1), λ k. tt) (nodes M) (all-pass (nodes M)) 100
-      (whole-percent (nodes M) (nodes-sized M accepted .0))
+      (percent-exact (nodes M) (nodes M) 100 (nodes-sized M accepted .0) refl)
 
   pub case-f-broken : Labels M (OneState 0) (λ j s. false) false 0 0
   unfolding overSignals recordWord each Keeps
@@ -136,7 +133,7 @@ module _ (M : List ℕ) (accepted : machineRefusal M ≡ 0) where
       labels M (OneState 0) accepted none-accepted tt (λ j s. false)
       (λ j s lo hi l h. let e : j ≡ 1 = one-line 0 j s lo hi in (λ t. absurd t, λ t. case-f-false s (rw e at t))) (λ j s over. refl) false
       (λ t. absurd t, λ k. let start = some-start M accepted in case-f-false (start .0) (k (start .0) (start .1))) 0 (none-pass (nodes M)) 0
-      (no-percent (nodes M) (nodes-sized M accepted .0))
+      (percent-exact 0 (nodes M) 0 (nodes-sized M accepted .0) (omega arith))
 
 -- ---- (e)
 

@@ -1,12 +1,12 @@
 -- Labelling: the rows of a whole rule sheet, and what is answered.
 use mathlib.Core.Path.{_≡_}
-use mathlib.Core.Logic.{_↔_}
+use mathlib.Core.Logic.{_↔_, _≢_}
 use Prim.Native.Nat.{ℕ, suc, _+_, _-_, _*_, _/_, _%_, _≤_, _<_}
 use mathlib.Core.List.{List, [], _∷_, _++_}
-use mathlib.Core.Bool.{Bool, false}
+use mathlib.Core.Bool.{Bool, false, cond}
 use lib.ListN.{length}
 use lib.Count.{ones}
-use lib.Dec.{T, leb}
+use lib.Dec.{T, leb, ltb}
 use Rattle.sheets.specs.Words.{word, bit}
 use Rattle.sheets.specs.Questions.{Question, ask}
 use Rattle.sheets.specs.Machine.{nodes, kripke}
@@ -35,9 +35,21 @@ pub data HowMany (P : ℕ → Type 0) : ℕ → ℕ → Type 0 where
   one-more : {n c : ℕ} → HowMany P n c → P (suc n) → HowMany P (suc n) (suc c)
   no-more : {n c : ℕ} → HowMany P n c → (P (suc n) → ⊥) → HowMany P (suc n) c
 
--- the whole percent of c among n, a half rounded up
+-- the whole percent of c among n: 100c / n rounded to the nearest whole number, a half to the even neighbour
 unfoldable pub percent : ℕ → ℕ → ℕ
-percent c n = (200 * c + n) / (2 * n)
+percent c n =
+    let q = 100 * c / n in
+    let r = 100 * c % n in
+    cond (ltb (2 * r) n) q (cond (ltb n (2 * r)) (q + 1) (q + q % 2))
+
+-- how far apart two numbers are
+abbrev pub apart : ℕ → ℕ → ℕ
+apart a b = (a - b) + (b - a)
+
+-- no whole number is nearer to 100c / n than p is (both are taken n times), and where another is as near, p is the even one
+pub record NearestPercent (c n p : ℕ) : Type 0 where
+  pub near : (k : ℕ) → apart (n * p) (100 * c) ≤ apart (n * k) (100 * c)
+  pub tie : (k : ℕ) → k ≢ p → apart (n * k) (100 * c) ≡ apart (n * p) (100 * c) → p % 2 ≡ 0
 
 -- the questions that labelling asks, of a space of so many words: those of both sheets, and "Has the space for truth rows at least 2l words
 -- of 64 bits?"

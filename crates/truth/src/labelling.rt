@@ -73,12 +73,21 @@ fn keeps(m: &[u16], last: Row) -> bool
     structure::start_row(m).difference(last).is_empty()
 }
 
-// The whole percent of c among n, a half rounded up.
+// The whole percent of c among n, a half rounded to the even neighbour.
 fn percent(c: u32, n: u16) -> u32
     requires { ⌜ (c ≤ membersMost) × (1 ≤ n) ⌝ }
     ensures { λ p. ⌜ p ≡ Labelling.percent c n ⌝ }
 {
-    (200 * c + n as u32) / (2 * n as u32)
+    let whole = n as u32;
+    let q = 100 * c / whole;
+    let twice = 2 * (100 * c % whole);
+    if twice < whole {
+        return q;
+    }
+    if twice > whole {
+        return q + 1;
+    }
+    q + q % 2
 }
 
 // Labels every line of the rule sheet r on the machine sheet m, two words of the space a line.

@@ -1,4 +1,5 @@
--- The count that labelling answers: the ones in the two words of the last row, which are the nodes where the last line is true.
+-- The count that labelling answers: the ones in the two words of the last row, which are the nodes where the last line is true. And its
+-- percent, in a reader's terms.
 use mathlib.Core.Path.{_≡_, sym, ap, _∙_}
 use mathlib.Core.Logic.{_↔_, ⊎-elim}
 use Prim.Native.Nat.{ℕ, zero, suc, _+_, _-_, _*_, _^_, _≤_, _<_}
@@ -22,12 +23,13 @@ use Rattle.sheets.specs.Format.{nodesMost}
 use Rattle.truth.specs.Sizes.{rowWords, membersMost, rowWordBits}
 use Rattle.truth.specs.Truth.{TrueAt}
 use Rattle.truth.specs.inner.Rows.{held}
-use Rattle.truth.specs.Labelling.{rowBit, rowOnes, Rows, HowMany, none, one-more, no-more}
+use Rattle.truth.specs.Labelling.{rowBit, rowOnes, Rows, HowMany, none, one-more, no-more, NearestPercent}
 use Rattle.truth.specs.LabelAnswers.{refusalOf, Leaves, LabelAnswer}
 use Rattle.truth.specs.declared.labelling.Labelled.the-variants.{Done}
 use Rattle.truth.proofs.rows.RowLaws.{tally-number, sum-split, held-count}
 use Rattle.truth.proofs.tables.RowBits.{row-bit}
 use Rattle.truth.proofs.labelling.LabelTable.{machine-accepted, rules-accepted}
+use Rattle.truth.proofs.labelling.Percents.{percent-nearest, nearest-percent}
 
 -- ---- numbers of nodes
 
@@ -94,3 +96,13 @@ count-true M R before after kept count share answer words =
     let rows = answer .leaves .rows in
     let e = answer .leaves .counted ∙ ones-counted M R before after small some rows (words (rowWords * (lines R - 1))) (words (rowWords * (lines R - 1) + 1)) in
     rw e (tested-many (TrueAt lent M R (lines R)) (rowBit after (lines R)) (nodes M) (λ s lo hi. rows .truth (lines R) s some (omega arith) lo hi))
+
+-- the percent that labelling answers, and no other number, is a nearest whole number to 100 count / n, where two are as near the even one
+pub share-nearest : (M R before after : List ℕ) (kept : Bool) (count share : ℕ) → LabelAnswer M R before after (Done kept count share)
+    → (p : ℕ) → NearestPercent count (nodes M) p ↔ p ≡ share
+unfolding refusalOf Leaves noRefusal
+share-nearest M R before after kept count share answer p =
+    let asked = ap (λ (r : Refusal). r .number) (answer .refusal) in
+    let some = nodes-sized M (machine-accepted M R (length before) asked) .0 in
+    let said = answer .leaves .shared in
+    (λ h. nearest-percent count (nodes M) p some h ∙ sym said, λ e. rw (e ∙ said) (percent-nearest count (nodes M) some))
