@@ -1,8 +1,8 @@
--- The marked cases of document 01 on truth: (e) Even on M3, (f) automata with no variable, (k) the percent of 1 of 8, and of 3 of 8. Of (e) and (f) also
--- what labelling answers.
+-- The marked cases of document 01 on truth: (e) Even on M3, (f) automata with no variable, (k) the percent of 1 of 8 (and of 3 of 8). Of (e)
+-- and (f) also what labelling answers.
 use mathlib.Core.Path.{_≡_, refl, sym, ap, subst, _∙_}
 use mathlib.Core.Logic.{_↔_}
-use Prim.Native.Nat.{ℕ, zero, suc, _-_, _*_, _≤_, _<_}
+use Prim.Native.Nat.{ℕ, zero, suc, _-_, _≤_, _<_}
 use native.Mathlib.Nat.{add-zero}
 use native.Mathlib.Numerals.{add-one}
 use native.Mathlib.Omega.{arith}
