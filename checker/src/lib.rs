@@ -1,6 +1,6 @@
 //! An independent checker for controller tables and rule sheets: what the proved code answers is
-//! compared with what is decided here, from the text of the scope document alone and by other
-//! algorithms.
+//! compared with what is decided here, from the text of the scope document and of the requests that
+//! changed it alone, and by other algorithms.
 //!
 //! `cargo test --release` runs everything, once `rt staticlib exports` in the repository root has
 //! written the static library; `cargo test --release --lib` needs no library.

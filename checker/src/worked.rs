@@ -41,17 +41,13 @@ pub fn m6() -> Vec<u16> {
 
 /// Eight nodes in a ring, where only the first has the signal.
 pub fn ring_of_eight() -> Vec<u16> {
-    ring(8, 1)
-}
-
-/// So many nodes in a ring, where the first ones have the signal; it starts in the first node.
-pub fn ring(nodes: u16, marked: u16) -> Vec<u16> {
-    let mut words = vec![nodes, 1, nodes];
-    for node in 1..=nodes {
-        words.extend([u16::from(node <= marked), u16::from(node == 1), node]);
+    let mut words = vec![8, 1, 8];
+    for node in 1..=8 {
+        let first = u16::from(node == 1);
+        words.extend([first, first, node]);
     }
-    for node in 1..=nodes {
-        words.extend([node % nodes + 1, 0]);
+    for node in 1..=8 {
+        words.extend([node % 8 + 1, 0]);
     }
     words
 }

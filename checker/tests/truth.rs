@@ -3,9 +3,12 @@
 
 mod exports;
 
+use checker::format::NODES;
+use checker::generate::machines::{self, Graph};
 use checker::labelling::{self, Labelling};
+use checker::rng::Rng;
 use checker::truth::Model;
-use checker::{format, trial, worked};
+use checker::{trial, worked};
 use std::io::Write;
 
 const SEED: u64 = 0x7472_7574_6801;
@@ -32,19 +35,22 @@ fn labelling_and_path() {
     }
 }
 
-// In a ring the rule "signal 1" is true in the nodes that have it: every count among every number of nodes.
+// Every count among every number of nodes: the rule is "signal 1", and so many nodes have the signal.
 #[test]
 fn every_percent() {
     let rules = worked::signal_alone();
-    for nodes in 1..=format::NODES as u16 {
+    let mut rng = Rng::new(SEED);
+    for nodes in 1..=NODES {
         for count in 0..=nodes {
-            let machine = worked::ring(nodes, count);
+            let graph = Graph {
+                labels: (0..nodes).map(|node| u16::from(node < count)).collect(),
+                ..machines::graph(&mut rng, nodes, 1)
+            };
+            let machine = machines::lay_out(&mut rng, &graph).words();
             let (mut rows, mut right) = ([u64::MAX; 3], [u64::MAX; 3]);
             let answer = exports::label(&machine, &rules, &mut rows);
             let expected = labelling::label(&Model::read(&machine, &rules), &mut right);
-            assert!(
-                matches!(expected, Labelling::Done { count: c, .. } if c == usize::from(count))
-            );
+            assert!(matches!(expected, Labelling::Done { count: c, .. } if c == count));
             assert_eq!((answer, rows), (expected, right), "{count} of {nodes}");
         }
     }

@@ -23,7 +23,9 @@ mul-twice-2 : tie.Need-mul-twice-2
 mul-twice-2 c = omega (arith, mod-le (100 * c .args .c) (c .args .n))
 
 returns : tie.Need-returns
-returns c = sym (percent-below (c .before .args .c) (c .before .args .n) (c .if1 .taken))
+returns c =
+    let start : tie.Start = search in
+    sym (percent-below (start .args .c) (start .args .n) (c .if1 .taken))
 
 add-result : tie.Need-add-result
 add-result c =
