@@ -1,4 +1,6 @@
 // The comparing program: two machine sheets from standard input, one line to standard output.
+#![tactic(auto)]
+
 mod answer; // answer.rt: what is answered to the input, and the line that says it
 
 use input::limits;

@@ -1,4 +1,6 @@
 // Comparison: equal, or unequal with the rule that tells the two machines apart.
+#![tactic(auto)]
+
 mod sizes; // sizes.rt: the sizes of the tables
 mod blocks; // blocks.rt: blocks in tables, split by sets
 mod signatures; // signatures.rt: the blocks that the edges of a node lead into

@@ -1,5 +1,7 @@
 // The explaining program: two machine sheets from standard input; where the two are unequal, the written rule in words, which machine keeps
 // it, and the start node where the other breaks it.
+#![tactic(auto)]
+
 mod verdict; // verdict.rt: which machine keeps a rule, and where the other breaks it
 mod answer; // answer.rt: what is said of the input, and the rule left in the space
 mod printing; // printing.rt: the answer in words

@@ -1,4 +1,6 @@
 // The proved code for C and Rust: functions over numbers and slices. A slice passes as a pointer and a length.
+#![tactic(auto)]
+
 ghost use Rattle.std.specs.Prelude.{◌≡◌};
 ghost use Rattle.sheets.specs.Machine.{machine_refusal};
 ghost use Rattle.sheets.specs.Rules.{lent, rule_refusal};

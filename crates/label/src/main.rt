@@ -1,5 +1,7 @@
 // The labelling program: a machine sheet and a rule sheet from standard input; the truth of every line at every node, and whether the
 // rule is kept, to standard output.
+#![tactic(auto)]
+
 mod answer; // answer.rt: what is answered to the input
 mod print; // print.rt: what is printed
 

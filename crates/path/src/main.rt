@@ -1,5 +1,7 @@
 // The path program: a machine sheet and a rule sheet from standard input, a line and a node as arguments; a path that shows the line
 // true at the node, to standard output.
+#![tactic(auto)]
+
 mod answer; // answer.rt: what is answered to the input
 mod arguments; // arguments.rt: what the arguments ask for
 mod print; // print.rt: what is printed

@@ -1,4 +1,6 @@
 // Rules in words: a rule that comparison writes, as one sentence and line by line.
+#![tactic(auto)]
+
 mod page; // page.rt: lines of text in a lent space
 mod parts; // parts.rt: what holds together where a line holds
 pub mod printing; // printing.rt: a rule in words, on standard output

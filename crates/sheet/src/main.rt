@@ -2,6 +2,8 @@
 // or checks one machine sheet, `sheet machine`, or one rule sheet, `sheet rules`, of bytes or, with the word `text` behind, of a text.
 // What is wrong with the arguments, with a text, or with bytes that are to be text is one line on standard error, and then nothing is
 // written to standard output.
+#![tactic(auto)]
+
 mod answer; // answer.rt: what is answered to a sheet that is checked, and the line that says it
 mod asked; // asked.rt: what the arguments ask for
 

@@ -51,7 +51,7 @@ pub const TRANSITION_WORDS: u16 = 3;
 pub const LINE_WORDS: u16 = 6;
 
 // What a node's record looks like: its words, and the places of its signals, its start flag and its first edge.
-#[derive(Drop)]
+#[derive(Clone, Copy)]
 pub struct NodeForm {
     pub words: u16,
     pub signals: u16,

@@ -76,7 +76,7 @@ fn with_mask(
 // The transitions out of a state so far, towards n states that stand by position: by position the valuations under which the state goes
 // there; the positions that are some target, and those that are one under some valuation; the valuations that one mask has, and those
 // that two have; and whether each target has a position and none is met twice.
-#[derive(Drop)]
+#[derive(Clone, Copy)]
 pub struct Leaving {
     pub states: [u16; format::CHAINED],
     pub n: u16,

@@ -16,7 +16,7 @@ use Rattle.sheets.specs.Questions.{none, first_no}
 use Rattle.sheets.specs.Machine.{nodes, kripke, machine_refusal}
 use Rattle.sheets.specs.Rules.{fits, lent, lines, accepting, leads, keep, passing, reached, walks, unmixed, distinct, transitions_fit, automaton_fits, total, automaton_total, unused, refers_above, path_fits, line_fits, record_questions, automata_questions, rule_questions, rule_refusal, over_signals, q7, q8, q9, q10, q11, q12, q13, q14, q15, automaton, line_of, line}
 use Rattle.sheets.specs.Worked.{M3}
-use Rattle.sheets.proofs.AcceptedMachine.{first_next, first_edge, edge_stays, nodes-sized, start-node}
+use Rattle.sheets.proofs.AcceptedMachine.{first_next, first_edge-leads, edge_stays, nodes-sized, start-node}
 use Rattle.sheets.proofs.Counting.{number}
 use Rattle.sheets.proofs.WorkedSheets.{machine-cases}
 use Rattle.truth.specs.Truth.{Valuation, SomePath, Means, TrueWithin, True, TrueAt, Keeps}

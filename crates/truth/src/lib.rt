@@ -1,4 +1,6 @@
 // Truth: labelling and paths.
+#![tactic(auto)]
+
 pub mod sizes; // sizes.rt: the sizes of rows and tables
 pub mod rows; // rows.rt: a set of nodes as a value
 pub mod structure; // structure.rt: the machine's structure in rows

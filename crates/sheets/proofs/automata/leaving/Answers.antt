@@ -1,0 +1,13 @@
+-- `leaving` meets its contract: what is gathered along the state's chain from no transition.
+use borrow.Author.Rules.{rules}
+use mathlib.Core.Path.{refl}
+use Rattle.sheets.specs.Format.{chained_most}
+use Rattle.sheets.proofs.ListedChains.{zeros}
+use Rattle.sheets.proofs.LeavingChains.{leaves-along}
+use Rattle.sheets.proofs.automata.leaving.Goals as goal
+
+pub returns : goal.returns
+returns c =
+    let args = c.args in
+    leaves-along args.r.now args.q _ _ _ _ _ c.transitions_from.ensures c.state_word-first.ensures
+    c.transitions-left.ensures (search rules) (search rules) (zeros chained_most) refl refl refl refl refl c.leaving_along.ensures

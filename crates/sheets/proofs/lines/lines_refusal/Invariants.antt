@@ -1,0 +1,17 @@
+-- `lines_refusal` meets its contract. The invariant: the lines passed pass question 15. The measure is how many are left.
+use Prim.Native.Nat.{ℕ, ◌-◌}
+use mathlib.Core.List.{List}
+use mathlib.Core.Bool.{Bool}
+use Rattle.sheets.specs.Format.{operation_place}
+use Rattle.sheets.specs.Rules.{lent, lines, line_word, line_fits}
+use Rattle.sheets.proofs.EachLoops.{Tested}
+use Rattle.sheets.proofs.lines.lines_refusal.Given as goal
+
+abbrev pub test : List ℕ → ℕ → Bool
+test r j = line_fits lent r j (line_word lent r j operation_place)
+
+abbrev pub invariant-loop-j : goal.invariant-loop-j
+invariant-loop-j l = Tested (test l.r) (lines l.r) l.l l.j
+
+abbrev pub decreases-loop-j : goal.decreases-loop-j
+decreases-loop-j l = l.l - l.j

@@ -1,0 +1,20 @@
+-- `q7` meets its contract: the length is tested, then each limit on the word that was read.
+use borrow.Author.Tests.{le-leb, lt-leb}
+use Rattle.sheets.specs.Format.{rule_header}
+use Rattle.sheets.specs.Rules.{fits, q7}
+use Rattle.sheets.proofs.rules.q7.Goals as goal
+
+pub returns-then-r-lt-RULE_HEADER : goal.returns-then-r-lt-RULE_HEADER
+unfolding q7 fits
+returns-then-r-lt-RULE_HEADER c = simp (lt-leb rule_header _ c.if-r-lt-RULE_HEADER.true)
+
+pub returns : goal.returns
+unfolding q7 fits
+returns c =
+    rw (
+      le-leb rule_header _ c.if-r-lt-RULE_HEADER.false,
+      c.lines-l.ensures,
+      c.transitions-e.ensures,
+      c.states-m.ensures,
+      c.automata-k.ensures,
+    )
