@@ -21,7 +21,7 @@ returns-then-n-le-CHAINED_MOST c =
     let at = c.loop-states in
     let R = c.args.r.now in
     let v = c.variables-v.result in
-    c.all_total.ensures ∙ sym (at.invariant ∙ block_last (test R v) at.false at.first (next_state R) c.states_from-all.result c.states_from-all.ensures c.if-n-le-CHAINED_MOST.true)
+    c.all_total.ensures ∙ sym (at.invariant ∙ block_last (test R v) at.left at.first (next_state R) c.states_from-all.result c.states_from-all.ensures c.if-n-le-CHAINED_MOST.true)
 
 pub all_total-requires-in-loop-states : goal.all_total-requires-in-loop-states
 all_total-requires-in-loop-states c =
@@ -32,25 +32,25 @@ returns-then-not-all_total c =
     let at = c.loop-states in
     let R = c.args.r.now in
     let v = c.variables-v.result in
-    sym (at.invariant ∙ block-fails (test R v) at.false at.first (next_state R) c.states_from-all.result c.states_from-all.ensures c.if-n-le-CHAINED_MOST.false c.all_total-in-loop-states.ensures (not-true _ c.if-not-all_total.true-raw))
+    sym (at.invariant ∙ block-fails (test R v) at.left at.first (next_state R) c.states_from-all.result c.states_from-all.ensures c.if-n-le-CHAINED_MOST.false c.all_total-in-loop-states.ensures (not-true _ c.if-not-all_total.true-raw))
 
 pub overflow_sub-left : goal.overflow_sub-left
 overflow_sub-left c =
     let at = c.loop-states in
     let R = c.args.r.now in
     let v = c.variables-v.result in
-    omega (arith, block-left (test R v) at.false at.first (next_state R) c.states_from-all.result c.states_from-all.ensures c.if-n-le-CHAINED_MOST.false)
+    omega (arith, block-left (test R v) at.left at.first (next_state R) c.states_from-all.result c.states_from-all.ensures c.if-n-le-CHAINED_MOST.false)
 
 pub loop-states-smaller : goal.loop-states-smaller
 loop-states-smaller c =
     let at = c.loop-states in
     let R = c.args.r.now in
     let v = c.variables-v.result in
-    omega (arith, block-left (test R v) at.false at.first (next_state R) c.states_from-all.result c.states_from-all.ensures c.if-n-le-CHAINED_MOST.false)
+    omega (arith, block-left (test R v) at.left at.first (next_state R) c.states_from-all.result c.states_from-all.ensures c.if-n-le-CHAINED_MOST.false)
 
 pub loop-states-preserved : goal.loop-states-preserved
 loop-states-preserved c =
     let at = c.loop-states in
     let R = c.args.r.now in
     let v = c.variables-v.result in
-    at.invariant ∙ block-passes (test R v) at.false at.first (next_state R) c.states_from-all.result c.states_from-all.ensures c.if-n-le-CHAINED_MOST.false c.all_total-in-loop-states.ensures (not-false _ c.if-not-all_total.false-raw) c.state_word-first.ensures
+    at.invariant ∙ block-passes (test R v) at.left at.first (next_state R) c.states_from-all.result c.states_from-all.ensures c.if-n-le-CHAINED_MOST.false c.all_total-in-loop-states.ensures (not-false _ c.if-not-all_total.false-raw) c.state_word-first.ensures

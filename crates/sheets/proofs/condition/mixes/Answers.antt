@@ -1,6 +1,6 @@
 -- `mixes` meets its contract: whether the set tells the two apart, and then whether each is reached from the other.
 use mathlib.Core.Bool.{not, ◌&&◌}
-use borrow.Author.Tests.{not-true, not-false}
+use borrow.Author.Tests.{not-true}
 use Rattle.sheets.proofs.condition.mixes.Goals as goal
 
 pub returns-then-not-bit : goal.returns-then-not-bit
@@ -10,7 +10,7 @@ returns-then-not-bit c =
 pub returns : goal.returns
 returns c =
     rw (
-      rw (c.bit.ensures, c.bit-2.ensures) at (not-false (c.bit.result && not c.bit-2.result) c.if-not-bit.false),
+      rw (c.bit.ensures, c.bit-2.ensures) at c.if-not-bit.false,
       c.bit-4.ensures,
       c.bit-3.ensures,
     )

@@ -1,5 +1,6 @@
 -- `decode` meets its contract: a line of operation 0 to 4 by question 15 of that operation; a line of any other is malformed.
 use mathlib.Core.Path.{ap}
+use native.Mathlib.Omega.{arith}
 use Rattle.sheets.specs.Operations.{signal_operation, negation_operation, either_operation, some_path_operation, some_path_not_operation}
 use Rattle.sheets.specs.Rules.{line_of, line_fits}
 use Rattle.sheets.specs.inner.Lines.{handed}
@@ -71,5 +72,4 @@ returns-else-path_fits-2 c =
 pub returns-in_default : goal.returns-in_default
 returns-in_default c =
     let args = c.args in
-    let n = c.in-0.rest in
-    unknown args.r.now args.j _ c.line_word-op.ensures n.0.0.0.0.1 n.0.0.0.1 n.0.0.1 n.0.1 n.1
+    unknown args.r.now args.j _ c.line_word-op.ensures (omega arith) (omega arith) (omega arith) (omega arith) (omega arith)

@@ -15,8 +15,8 @@ loop-p-preserved c =
     let a = c.args in
     let put = c.put_masks.ensures in (
       omega arith,
-      put.0,
-      from_more a.r.now a.states a.n at.p at.out c.put_masks.new.0 c.leaving-leaving.result.masks (omega arith) at.invariant.2 put.1.0 put.1.1 c.leaving-leaving.ensures.goes,
+      put.size,
+      from_more a.r.now a.states a.n at.p at.out c.put_masks.new.out c.leaving-leaving.result.masks (omega arith) at.invariant.2 put.here put.before c.leaving-leaving.ensures.goes,
     )
 
 pub returns : goal.returns

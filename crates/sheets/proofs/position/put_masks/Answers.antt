@@ -26,4 +26,4 @@ pub returns : goal.returns
 returns c =
     let at = c.loop-k in
     let e : at.k ≡ c.args.n = omega arith in
-    (at.invariant.1, (λ k l. at.invariant.2 k (omega arith), at.invariant.3))
+    record { size = at.invariant.1; here = λ k l. at.invariant.2 k (omega arith); before = at.invariant.3 }

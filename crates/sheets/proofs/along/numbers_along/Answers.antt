@@ -1,0 +1,28 @@
+-- `numbers_along` meets its contract: the walk that gathers along a chain, at `with_number`.
+use mathlib.Core.Path.{ap}
+use mathlib.Core.List.{List}
+use Prim.Native.Nat.{ℕ}
+use Rattle.sheets.specs.inner.Gathered.{Never, NumberTaken}
+use Rattle.sheets.specs.declared.walker.Walker.{Walker}
+use Rattle.sheets.proofs.GatheredChains.{remaining-less, whole-way}
+use Rattle.sheets.proofs.ChainWalks.{walk-starts, walk-goes, walk-ends}
+use Rattle.sheets.proofs.along.numbers_along.Goals as goal
+
+pub loop-left-init : goal.loop-left-init
+loop-left-init c =
+    let w = c.new-w.ensures in
+    walk-starts NumberTaken (λ a b e. e) Never c.args.ws.now c.args.base c.args.width c.args.left c.args.first c.args.a c.new-w.result (rw w.0) w.1.0 w.1.1.0 w.1.1.1
+
+pub loop-left-smaller : goal.loop-left-smaller
+loop-left-smaller c = remaining-less Never c.with_number-a.result c.loop-left.left c.next-step.result c.numbers_left-left.result c.loop-left-test.true c.numbers_left-left.ensures
+
+pub loop-left-preserved : goal.loop-left-preserved
+loop-left-preserved c =
+    walk-goes NumberTaken (λ a b e. e) Never c.args.ws.now c.args.base c.args.width c.args.left c.args.first c.args.a c.loop-left.left c.numbers_left-left.result
+    c.loop-left.w c.next-step.new.w c.loop-left.a c.with_number-a.result c.next-step.result c.loop-left-test.true c.loop-left.invariant
+    c.next-step.ensures.0 c.next-step.ensures.1 c.with_number-a.ensures c.numbers_left-left.ensures
+
+pub returns : goal.returns
+returns c =
+    whole-way NumberTaken Never (λ a d. d) _ c.args.a c.loop-left.a
+    (walk-ends NumberTaken (λ a b e. e) Never c.args.ws.now c.args.base c.args.width c.args.left c.args.first c.args.a c.loop-left.left c.loop-left.w c.loop-left.a c.loop-left-test.false c.loop-left.invariant)
