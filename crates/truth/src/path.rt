@@ -24,7 +24,7 @@ use sheets::{checks, format, machine, position, rules};
 
 // The answer: refused by a question, with the number of the machine sheet for questions 1 to 6; no path; or a path of so many pairs,
 // the last of which goes to the pair at the back index.
-#[derive(Drop)]
+#[derive(Clone, Copy)]
 pub enum Shown {
     Refused { question: u16, sheet: u16 },
     NoPath,

@@ -7,7 +7,7 @@ ghost use Rattle.truth.specs.inner.Rows.{row_has, tally, First, Last};
 use crate::sizes::{HIGH_FIRST, LOW_LAST, MEMBERS, ROW_WORD_BITS};
 
 // A set of nodes, from 1 to MEMBERS.
-#[derive(Drop)]
+#[derive(Clone, Copy)]
 pub struct Row {
     pub low: u64,
     pub high: u64,

@@ -28,7 +28,7 @@ const LINKS_END: u64 = 65536;
 
 // What is gathered of a chain: the targets so far, the record at which the walk is left, and the link of the last record. The fields leave
 // no gap between them, which would be copied at each step.
-#[derive(Drop)]
+#[derive(Clone, Copy)]
 struct Targets {
     row: Row,
     stop: u64,
