@@ -1,0 +1,112 @@
+-- `grow_from` meets its contract. The invariant: the pairs of the positions that are no longer left are added. The measure is how many are left.
+use mathlib.Core.Path.{◌∙◌}
+use mathlib.Core.Logic.{◌↔◌}
+use Prim.Native.Nat.{ℕ, ◌-◌, ◌≤◌}
+use native.Mathlib.Omega.{arith}
+use lib.Dec.{T}
+use Rattle.sheets.proofs.Tests.{and_left}
+use Rattle.truth.specs.Sizes.{cell}
+use Rattle.truth.specs.inner.Rows.{row_has, rows_has}
+use Rattle.truth.specs.inner.Pairs.{Before, Cleared}
+use Rattle.truth.specs.inner.Growing.{enters}
+use Rattle.truth.proofs.rows.RowLaws.{held_in}
+use Rattle.truth.proofs.rows.RowWalks.{none_left, one_left, one-within, less-falls, less-in}
+use Rattle.truth.proofs.tables.TableLaws.{emptied}
+use Rattle.truth.proofs.growth.Spreading.{spread_none, spread-more, spread_same, among_none, among_next, among-end}
+use Rattle.truth.proofs.growth.grow_from.Goals as goal
+
+cleared : (c : goal.After-store) → Cleared c.args.p2 c.args.new.now c.store.new.rows
+cleared c =
+    let a = c.args in
+    let pre = c.requires in
+    emptied a.new.now _ a.p2 _ _ (omega (arith, pre.0, pre.1, pre.3)) c.store.ensures c.empty.ensures
+
+-- the member that is found
+few : (c : goal.Else-u-eq0) → (1 ≤ c.first-u.result) × (c.first-u.result ≤ c.args.t)
+few c =
+    let f = c.first-u.ensures in
+    let n = c.if-u-eq0.false in
+    let from = c.load-left.ensures in
+    ((one-within _ _ _ f n).0, c.requires.4.few c.args.p2 _ (rw (from.0, from.1) at (c.loop-prev.invariant.0 _ (one_left _ _ f n))))
+
+pub load-requires : goal.load-requires
+load-requires c = omega arith
+
+pub together-prev-requires : goal.together-prev-requires
+together-prev-requires c = λ u t. omega (arith, (held_in _ _ u t).1)
+
+pub empty-requires : goal.empty-requires
+empty-requires c = omega arith
+
+pub store-requires : goal.store-requires
+store-requires c = omega arith
+
+pub load-left-requires : goal.load-left-requires
+load-left-requires c = omega (arith, c.requires.0, c.requires.1)
+
+pub loop-prev-init : goal.loop-prev-init
+loop-prev-init c =
+    (λ u t. t, spread_none (among_none (row_has c.load-left.result) (enters c.args.allow.now c.args.p2 (row_has c.together-prev.result))))
+
+pub first-u-requires : goal.first-u-requires
+first-u-requires c = omega arith
+
+pub shape_of-times-then-u-eq0 : goal.shape_of-times-then-u-eq0
+shape_of-times-then-u-eq0 c = c.loop-prev.invariant.1.times-size
+
+pub returns-then-u-eq0 : goal.returns-then-u-eq0
+returns-then-u-eq0 c =
+    let a = c.args in
+    let pre = c.requires in
+    let l = c.loop-prev in
+    let row = c.load.ensures in
+    let from = c.load-left in
+    let prev = c.together-prev in
+    let before : (s : ℕ) → T (row_has prev.result s) ↔ Before a.back.now (rows_has a.new.now a.p2) s = rw (row.0, row.1) at prev.ensures in
+    let enter = enters a.allow.now a.p2 (row_has prev.result) in
+    let none = none_left _ _ c.first-u.ensures c.if-u-eq0.true in
+    let same =
+    among-end (row_has from.result) enter (row_has l.left) a.t none
+    (λ u t. pre.4.few a.p2 u (rw (from.ensures.0, from.ensures.1) at t))
+    (λ p s h x. rw (from.ensures.0, from.ensures.1) (pre.4.all a.p2 p s pre.0 h (and_left (rows_has a.allow.now (cell p a.p2) s) (row_has prev.result s) x))) in
+    record {
+      prev = row_has prev.result;
+      before = before;
+      cleared = c.store.new.rows;
+      clears = cleared (search);
+      spread = spread_same same l.invariant.1;
+    }
+
+pub without-left-requires : goal.without-left-requires
+without-left-requires c = omega arith
+
+pub overflow_cast-u : goal.overflow_cast-u
+overflow_cast-u c = omega arith
+
+pub overflow_sub-u : goal.overflow_sub-u
+overflow_sub-u c = omega (arith, few (search))
+
+pub grow_one-requires : goal.grow_one-requires
+grow_one-requires c =
+    let pre = c.requires in
+    let g = c.loop-prev.invariant.1 in
+    (omega (arith, few (search), pre.1), omega (arith, pre.0, pre.1), g.ys-size ∙ pre.2, g.new-size ∙ (cleared (search)).size ∙ pre.3)
+
+pub loop-prev-smaller : goal.loop-prev-smaller
+loop-prev-smaller c =
+    let n = c.if-u-eq0.false in
+    let f = c.first-u.ensures in
+    let r = one-within _ _ _ f n in
+    less-falls _ _ _ c.without-left.ensures r.0 r.1 (one_left _ _ f n)
+
+pub loop-prev-preserved : goal.loop-prev-preserved
+loop-prev-preserved c =
+    let a = c.args in
+    let l = c.loop-prev in
+    let n = c.if-u-eq0.false in
+    let f = c.first-u.ensures in
+    let less = c.without-left.ensures in
+    let t = one_left _ _ f n in
+    let enter = enters a.allow.now a.p2 (row_has c.together-prev.result) in
+    let join = among_next (row_has c.load-left.result) enter (row_has l.left) (row_has c.without-left.result) c.first-u.result less t (l.invariant.0 _ t) (one-within _ _ _ f n).0 in
+    (λ u x. l.invariant.0 u (less-in (row_has l.left) _ _ less u x), spread-more join l.invariant.1 c.grow_one.ensures)

@@ -1,0 +1,82 @@
+-- `label` meets its contract: the first "no" of the table refuses, and where none does, the last row answers.
+use mathlib.Core.Path.{◌≡◌, sym, ◌∙◌}
+use Prim.Native.Nat.{◌+◌, ◌-◌, ◌*◌, ◌^◌, ◌≤◌, ◌<◌}
+use native.Mathlib.Omega.{arith}
+use lib.ListN.{length}
+use Rattle.sheets.specs.Machine.{machine_refusal}
+use Rattle.sheets.specs.Rules.{lent, lines, rule_refusal}
+use Rattle.sheets.proofs.Counting.{number-most}
+use Rattle.sheets.proofs.AcceptedMachine.{nodes-sized}
+use Rattle.sheets.proofs.AcceptedRule.{some-line}
+use Rattle.truth.specs.Sizes.{row_words, members_most, row_word_bits}
+use Rattle.truth.specs.inner.Rows.{row_has}
+use Rattle.truth.proofs.labelling.LabelTable.{machine-accepted, rules-accepted, space-enough}
+use Rattle.truth.proofs.rows.RowLaws.{tally-number}
+use Rattle.truth.proofs.labelling.LabelAnswers.{refused, done}
+use Rattle.truth.proofs.labelling.label.Goals as goal
+
+-- where no question refuses, both sheets are accepted, and the space is enough
+accepted : (c : goal.Else-question-ne0)
+    → (machine_refusal c.args.m.now ≡ 0) × ((rule_refusal lent c.args.r.now ≡ 0) × (row_words * lines c.args.r.now ≤ length c.args.rows.now))
+accepted c =
+    let a = c.args in
+    let e = sym c.if-question-ne0.false ∙ c.label_refusal-question.ensures in
+    let space = length a.rows.now in
+    (machine-accepted a.m.now a.r.now space e, (rules-accepted a.m.now a.r.now space e, space-enough a.m.now a.r.now space e))
+
+pub label_refusal-question-requires : goal.label_refusal-question-requires
+label_refusal-question-requires c = omega arith
+
+pub sheet_of-requires : goal.sheet_of-requires
+sheet_of-requires c = omega arith
+
+pub returns-then-question-ne0 : goal.returns-then-question-ne0
+returns-then-question-ne0 c =
+    let a = c.args in
+    refused a.m.now a.r.now a.rows.now _ c.label_refusal-question.ensures _ c.if-question-ne0.true c.sheet_of.ensures
+
+pub lines-l-requires : goal.lines-l-requires
+lines-l-requires c = omega arith
+
+pub label_lines-requires : goal.label_lines-requires
+label_lines-requires c =
+    let s = accepted (search) in
+    let l = c.lines-l.ensures in
+    (s.0, (s.1.0, (omega arith, omega (arith, s.1.1))))
+
+pub overflow_cast-l : goal.overflow_cast-l
+overflow_cast-l c = omega arith
+
+pub line_row-last-requires : goal.line_row-last-requires
+line_row-last-requires c =
+    let s = accepted (search) in
+    let some = some-line lent _ s.1.0 in
+    let l = c.lines-l.ensures in
+    (omega arith, omega (arith, s.1.1, c.label_lines.ensures.size))
+
+pub count-count-requires : goal.count-count-requires
+count-count-requires c = omega arith
+
+pub keeps-requires : goal.keeps-requires
+keeps-requires c = (nodes-sized _ (accepted (search)).0).1
+
+pub nodes-requires : goal.nodes-requires
+nodes-requires c = omega arith
+
+pub percent-requires : goal.percent-requires
+percent-requires c =
+    let sized = nodes-sized _ (accepted (search)).0 in
+    (rw (c.count-count.ensures, tally-number members_most (row_has c.line_row-last.result)) (number-most members_most _), omega (arith, c.nodes.ensures))
+
+pub returns : goal.returns
+returns c =
+    let a = c.args in
+    let lines = c.lines-l in
+    let row = c.line_row-last in
+    let i = row_words * (lines.result - 1) in
+    let below = c.slice_known-2-1.given in
+    let lo : row.result.low < 2 ^ row_word_bits = omega (arith, row.ensures.0, below i) in
+    let hi : row.result.high < 2 ^ row_word_bits = omega (arith, row.ensures.1, below (i + 1)) in
+    done a.m.now a.r.now a.rows.now _ c.label_refusal-question.ensures _ row.result.low row.result.high _ _ _ _ c.if-question-ne0.false
+    (rw lines.ensures at c.label_lines.ensures) lines.ensures row.ensures.0 row.ensures.1 lo hi c.keeps.ensures
+    c.count-count.ensures (rw c.nodes.ensures at c.percent.ensures)

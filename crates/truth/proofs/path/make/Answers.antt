@@ -1,0 +1,68 @@
+-- `make` meets its contract: the first "no" of the table refuses; where none does, the asked line is shown by the rows of the lines above it.
+use borrow.Author.Rules.{rules}
+use mathlib.Core.Path.{◌≡◌}
+use Prim.Native.Nat.{◌≤◌}
+use mathlib.Core.Bool.{true, false}
+use borrow.Author.Tests.{eq-eqb, ne_eqb}
+use native.Mathlib.Omega.{arith}
+use Rattle.sheets.specs.Machine.{machine_refusal}
+use Rattle.sheets.specs.Rules.{lent, lines, rule_refusal}
+use Rattle.truth.proofs.path.PathMade.{rows_fit, refused, machine-accepted, rules-accepted, line-in, show-ready, shown}
+use Rattle.truth.proofs.path.make.Goals as goal
+
+-- where no question refuses, both sheets are accepted
+machine : (c : goal.Else-question-ne0) → machine_refusal c.args.m.now ≡ 0
+machine c =
+    let a = c.args in machine-accepted a.m.now a.r.now a.line a.node a.room _ c.path_refusal-question.ensures c.if-question-ne0.false
+
+rules : (c : goal.Else-question-ne0) → rule_refusal lent c.args.r.now ≡ 0
+rules c =
+    let a = c.args in rules-accepted a.m.now a.r.now a.line a.node a.room _ c.path_refusal-question.ensures c.if-question-ne0.false
+
+pub returns-then-question-ne0 : goal.returns-then-question-ne0
+returns-then-question-ne0 c =
+    let a = c.args in
+    refused a.m.now a.r.now a.line a.node a.room _ c.path_refusal-question.ensures _ _ _ c.if-question-ne0.true c.sheet_of.ensures
+
+-- the asked line is one of the sheet
+line : (c : goal.After-rows-1) → (1 ≤ c.asked-j.result) × (c.asked-j.result ≤ lines c.args.r.now)
+line c =
+    let a = c.args in
+    line-in a.m.now a.r.now a.line a.node a.room _ c.path_refusal-question.ensures c.if-question-ne0.false _ c.asked-j.ensures
+
+pub overflow_sub-j : goal.overflow_sub-j
+overflow_sub-j c = omega (arith, (line c).0)
+
+pub label_lines-requires : goal.label_lines-requires
+label_lines-requires c =
+    let l = line c in
+    let fit = rows_fit _ (rules (search)) in
+    (machine (search), (rules (search), (omega arith, omega arith)))
+
+pub show_line-requires : goal.show_line-requires
+show_line-requires c =
+    let a = c.args in
+    show-ready a.m.now a.r.now a.line a.node a.room _ c.path_refusal-question.ensures c.if-question-ne0.false _ c.asked-j.ensures
+    _ _ c.label_lines.ensures _ _ c.path_line-p.ensures c.operation.ensures true (eq-eqb _ _ c.if-operation-eq-SOME_PATH_NOT.true)
+    c.label_lines.ensures.size
+
+pub returns-then-operation-eq-SOME_PATH_NOT : goal.returns-then-operation-eq-SOME_PATH_NOT
+returns-then-operation-eq-SOME_PATH_NOT c =
+    let a = c.args in
+    shown a.m.now a.r.now a.line a.node a.room _ c.path_refusal-question.ensures c.if-question-ne0.false _ c.asked-j.ensures
+    _ _ c.label_lines.ensures _ _ c.path_line-p.ensures c.operation.ensures true (eq-eqb _ _ c.if-operation-eq-SOME_PATH_NOT.true)
+    _ _ _ c.show_line.ensures
+
+pub show_line-requires-2 : goal.show_line-requires-2
+show_line-requires-2 c =
+    let a = c.args in
+    show-ready a.m.now a.r.now a.line a.node a.room _ c.path_refusal-question.ensures c.if-question-ne0.false _ c.asked-j.ensures
+    _ _ c.label_lines.ensures _ _ c.path_line-p.ensures c.operation.ensures false (ne_eqb _ _ c.if-operation-eq-SOME_PATH_NOT.false)
+    c.label_lines.ensures.size
+
+pub returns : goal.returns
+returns c =
+    let a = c.args in
+    shown a.m.now a.r.now a.line a.node a.room _ c.path_refusal-question.ensures c.if-question-ne0.false _ c.asked-j.ensures
+    _ _ c.label_lines.ensures _ _ c.path_line-p.ensures c.operation.ensures false (ne_eqb _ _ c.if-operation-eq-SOME_PATH_NOT.false)
+    _ _ _ c.show_line-2.ensures

@@ -1,0 +1,60 @@
+-- `trim_from` meets its contract: a row of what is gone is emptied, and what was owed a step to it is looked at.
+use mathlib.Core.Path.{◌≡◌, sym, ◌∙◌}
+use mathlib.Core.Logic.{◌↔◌}
+use Prim.Native.Nat.{ℕ}
+use native.Mathlib.Omega.{arith}
+use mathlib.Core.Bool.{true, false, not, true≢false}
+use lib.Dec.{T}
+use Rattle.sheets.specs.Words.{each}
+use Rattle.truth.specs.Sizes.{members_most}
+use Rattle.truth.specs.inner.Rows.{row_has, rows_has}
+use Rattle.truth.specs.inner.Pairs.{Before, Cleared}
+use Rattle.truth.proofs.rows.RowLaws.{held_in, none_passes}
+use Rattle.truth.proofs.tables.TableLaws.{emptied}
+use Rattle.truth.proofs.trimming.TrimGone.{trimmed-idle, trimmed-row}
+use Rattle.truth.proofs.trimming.trim_from.Goals as goal
+
+pub load-from-requires : goal.load-from-requires
+load-from-requires c = omega arith
+
+pub is_empty-requires : goal.is_empty-requires
+is_empty-requires c = omega arith
+
+pub returns-then-is_empty : goal.returns-then-is_empty
+returns-then-is_empty c =
+    let a = c.args in
+    let from = c.load-from.ensures in
+    let none : each members_most (λ s. not (rows_has a.gone.now a.p2 s)) ≡ true = rw (from.0, from.1) at (sym c.is_empty.ensures ∙ c.if-is_empty.true) in
+    record { trimmed = trimmed-idle; none = λ y. none_passes (rows_has a.gone.now a.p2) (held_in _ _) none }
+
+pub empty-requires : goal.empty-requires
+empty-requires c = omega arith
+
+pub store-requires : goal.store-requires
+store-requires c = omega arith
+
+pub together-pre-requires : goal.together-pre-requires
+together-pre-requires c = λ u t. omega (arith, (held_in _ _ u t).1)
+
+pub load-requires : goal.load-requires
+load-requires c = omega (arith, c.requires.0, c.requires.1)
+
+pub trim_into-requires : goal.trim_into-requires
+trim_into-requires c =
+    let pre = c.requires in
+    let on = c.load.ensures in
+    (pre.0, pre.1, pre.2, ((let h : Cleared c.args.p2 c.args.gone.now c.store.new.rows = let pre = c.requires in
+    emptied c.args.gone.now _ c.args.p2 _ _ (omega (arith, pre.0, pre.1, pre.3)) c.store.ensures c.empty.ensures in h)).size ∙ pre.3, λ u t. pre.4.few _ u (rw (on.0, on.1) at t), pre.5)
+
+pub returns : goal.returns
+returns c =
+    let a = c.args in
+    let from = c.load-from.ensures in
+    let on = c.load.ensures in
+    let pre = c.together-pre in
+    let ahead : (s : ℕ) → T (row_has pre.result s) ↔ Before a.back.now (rows_has a.gone.now a.p2) s = rw (from.0, from.1) at pre.ensures in
+    let some : each members_most (λ s. not (rows_has a.gone.now a.p2 s)) ≡ false =
+    rw (from.0, from.1) at (sym c.is_empty.ensures ∙ c.if-is_empty.false) in
+    let m = c.trim_into.ensures in
+    let known = c.requires in record { trimmed = trimmed-row a.back.now a.gone.now a.p2 (row_has pre.result) ((let h : Cleared c.args.p2 c.args.gone.now c.store.new.rows = let pre = c.requires in
+    emptied c.args.gone.now _ c.args.p2 _ _ (omega (arith, pre.0, pre.1, pre.3)) c.store.ensures c.empty.ensures in h)) ahead m.moved a.into.now known.4 (rw (on.0, on.1) at m.owing) known.0 some; none = λ y. absurd (true≢false y) }
