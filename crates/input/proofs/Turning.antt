@@ -13,7 +13,6 @@ use Rattle.text.specs.Layout.{word_bytes, text_of, written_of, text_left}
 use Rattle.text.specs.declared.read.Place.{Place}
 use Rattle.text.specs.declared.read.Kind.{Kind}
 use Rattle.text.specs.declared.write.Written.{Written}
-use Rattle.text.specs.declared.write.Written.TheVariants as Written
 use Rattle.text.proofs.Answers.{Got}
 use Rattle.input.specs.Limits.{sheets_words, sheets_bytes, text_bytes}
 use Rattle.input.specs.Bytes.{words_of, bytes_of}

@@ -3,7 +3,6 @@ use Rattle.std.specs.Prelude.{ℕ, ◌%◌, List, ◌++◌, cond, length, drop, 
 use Rattle.text.specs.Texts.{Read, words, fault, reading_of}
 use Rattle.text.specs.Layout.{written_of, text_left}
 use Rattle.text.specs.declared.write.Written.{Written}
-use Rattle.text.specs.declared.write.Written.TheVariants as Written
 use Rattle.input.specs.Limits.{sheets_words, sheets_bytes, text_bytes}
 use Rattle.input.specs.Bytes.{words_of, bytes_of}
 use Rattle.input.specs.declared.turn.Turned.{Turned}

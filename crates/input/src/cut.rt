@@ -7,7 +7,7 @@ use sheets::{format, machine};
 
 // Where the two sheets of the input stand in the words: the first up to `end`, and the second from there to `count`. The bytes are
 // refused, and no word is taken, where they are odd in number or too many.
-#[derive(Drop)]
+#[derive(Clone, Copy)]
 pub struct Cut {
     pub refused: bool,
     pub end: usize,

@@ -3,6 +3,7 @@
 
 pub mod bytes; // bytes.rt: how many bytes are taken, and their words
 pub mod cut; // cut.rt: the two sheets of the input, and where the first ends
+pub mod full; // full.rt: a reader's bytes, until it ends or the lent space is full
 pub mod limits; // limits.rt: how much the programs take and lend
 pub mod line; // line.rt: the line of a refusal
 pub mod turn; // turn.rt: a sheet as text and as bytes

@@ -8,7 +8,7 @@ ghost use Rattle.text.specs.inner.Readers.{held, told_of};
 use crate::reader::{Reader, State};
 
 // Where a byte stands. Lines and columns count from 1, and columns count bytes.
-#[derive(Drop)]
+#[derive(Clone, Copy)]
 pub struct Place {
     pub line: usize,
     pub column: usize,
@@ -16,7 +16,7 @@ pub struct Place {
 
 // What is wrong with a text: a byte that is no digit, a number above 65,535, or a word that there is no room for. The last two stand
 // at their first digit.
-#[derive(Drop)]
+#[derive(Clone, Copy)]
 pub enum Kind {
     NotDecimal,
     Above,

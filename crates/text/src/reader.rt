@@ -14,7 +14,7 @@ pub enum Sort {
 }
 
 // What stands before a byte: a gap, a number with the place of its first digit, or a fault.
-#[derive(Drop)]
+#[derive(Clone, Copy)]
 pub enum State {
     Gap,
     Number { from: Place, value: u16 },

@@ -1,0 +1,28 @@
+-- `in_number` meets its contract: a law for each sort of byte.
+use mathlib.Core.Path.{sym, ◌∙◌}
+use Rattle.text.proofs.Moving.{number-blank, number-digit, number-above, number-other}
+use Rattle.text.proofs.reader.in_number.Goals as goal
+
+pub returns-in-Blank : goal.returns-in-Blank
+returns-in-Blank c =
+    let start = c.args in
+    let sort = sym c.sort_of-sort.ensures ∙ c.in-Blank.is in
+    number-blank start.room start.at start.byte start.from start.value sort
+
+pub returns-then-longer-le65535 : goal.returns-then-longer-le65535
+returns-then-longer-le65535 c =
+    let start = c.args in
+    let sort = sym c.sort_of-sort.ensures ∙ c.in-Digit.is in
+    number-digit start.room start.at start.byte start.from start.value _ sort c.if-longer-le65535.true
+
+pub returns-else-longer-le65535 : goal.returns-else-longer-le65535
+returns-else-longer-le65535 c =
+    let start = c.args in
+    let sort = sym c.sort_of-sort.ensures ∙ c.in-Digit.is in
+    number-above start.room start.at start.byte start.from start.value _ sort c.if-longer-le65535.false
+
+pub returns-in-Other : goal.returns-in-Other
+returns-in-Other c =
+    let start = c.args in
+    let sort = sym c.sort_of-sort.ensures ∙ c.in-Other.is in
+    number-other start.room start.at start.byte start.from start.value sort
