@@ -1,7 +1,8 @@
 #!/usr/bin/env bash
 # Runs every test: the checker's unit tests, the proofs and must-fail edits of each listed crate (rt ci), then the checker's tests against the
 # proved code. What rt ci says is shown as it comes, all but its last line, which is its verdict: that is held back until the checker has
-# passed too, so that it is the last line here. The exit status is not 0 where anything failed, or where there is no checker.
+# passed too, so that it is the last line here. The exit status is not 0 where anything failed, where a must-fail edit could not be tried
+# (rt ci counts it as bad, and passes), or where there is no checker.
 set -eu -o pipefail
 cd "$(dirname "$0")"
 if [ ! -f checker/Cargo.toml ]; then
@@ -20,9 +21,14 @@ if [ "$passed" = no ]; then
   exit 1
 fi
 case "$verdict" in
-  *" passed, 0 failed") ;;
+  *" passed, 0 failed"*) ;;
   *) echo "$verdict"; echo "rt ci gave no verdict"; exit 1 ;;
 esac
-rt staticlib exports
+if ! grep -q '^rt: ok' "$log" || grep -Eq '^rt: ok.*, [1-9][0-9]* bad' "$log"; then
+  echo "$verdict"
+  echo "a must-fail edit is bad, or rt ci does not say that all is well"
+  exit 1
+fi
+bash ./build.sh
 (cd checker && cargo test --release --offline --test '*')
 echo "$verdict"

@@ -14,7 +14,7 @@ fi
 here=$(cd "$(dirname "$0")" && pwd)
 for program in sheet compare explain; do
   if [ ! -x "$here/target/bin/$program" ]; then
-    (cd "$here" && rt check sheet compare explain) >&2
+    bash "$here/build.sh" "$program" >&2
   fi
 done
 work=$(mktemp -d)
