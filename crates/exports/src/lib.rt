@@ -1,4 +1,4 @@
-// The proved code for C and Rust: functions over numbers and slices. A slice passes as a pointer and a length.
+// The proved code as functions over numbers and slices, in the form that C calls: exports_c hands each of them to C.
 #![tactic(auto)]
 
 ghost use Rattle.std.specs.Prelude.{◌≡◌};
@@ -20,8 +20,7 @@ use truth::path::Shown;
 use truth::{labelling, pairs, path};
 
 // The question that refuses a machine sheet, 0 where it is accepted.
-#[unsafe(no_mangle)]
-pub extern "C" fn toqshenay_check_machine(m: &[u16]) -> u16
+pub fn toqshenay_check_machine(m: &[u16]) -> u16
     ensures { result ≡ machine_refusal m.now }
 {
     let answer = checks::check_machine(m);
@@ -32,8 +31,7 @@ pub extern "C" fn toqshenay_check_machine(m: &[u16]) -> u16
 }
 
 // The question that refuses a rule sheet, 0 where it is accepted.
-#[unsafe(no_mangle)]
-pub extern "C" fn toqshenay_check_rules(r: &[u16]) -> u16
+pub fn toqshenay_check_rules(r: &[u16]) -> u16
     ensures { result ≡ rule_refusal lent r.now }
 {
     let answer = checks::check_rules(r);
@@ -45,8 +43,7 @@ pub extern "C" fn toqshenay_check_rules(r: &[u16]) -> u16
 
 // Labelling: the rows go to the lent space, two words a line. The question that refuses, and its sheet, or 0; then whether the rule
 // is kept, the number of true nodes of the last line, and its percent among the nodes.
-#[unsafe(no_mangle)]
-pub extern "C" fn toqshenay_label(
+pub fn toqshenay_label(
     m: &[u16],
     r: &[u16],
     rows: &mut [u64],
@@ -121,8 +118,7 @@ fn tell_path(answer: Shown, sheet: &mut u16, length: &mut u16, back: &mut u16) -
 }
 
 // Shows a path for a path line at a node: the nodes and the states of its pairs go to two lent lists. The numbers are `tell_path`'s.
-#[unsafe(no_mangle)]
-pub extern "C" fn toqshenay_path(
+pub fn toqshenay_path(
     m: &[u16],
     r: &[u16],
     line: u16,
@@ -140,8 +136,7 @@ pub extern "C" fn toqshenay_path(
 }
 
 // The same with one lent list, of pairs.
-#[unsafe(no_mangle)]
-pub extern "C" fn toqshenay_path_pairs(
+pub fn toqshenay_path_pairs(
     m: &[u16],
     r: &[u16],
     line: u16,
@@ -159,8 +154,7 @@ pub extern "C" fn toqshenay_path_pairs(
 
 // Compares two machine sheets; where they are unequal, the rule that tells them apart goes to the lent space. The question that
 // refuses, and its sheet, or 0; then 0 where the two are equal and 1 where they are not.
-#[unsafe(no_mangle)]
-pub extern "C" fn toqshenay_compare(
+pub fn toqshenay_compare(
     m1: &[u16],
     m2: &[u16],
     space: &mut [u16],

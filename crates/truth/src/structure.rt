@@ -17,7 +17,7 @@ use sheets::words::Step;
 use sheets::{along, format, machine, walker};
 
 // A tail that chains share: the nodes that the chain from record `at` on leads to. From record 0 on there is nothing.
-#[derive(Drop)]
+#[derive(Clone, Copy)]
 pub struct Tail {
     pub row: Row,
     pub at: u64,
