@@ -1,0 +1,14 @@
+-- `at_most_one` meets its contract: nothing is left when one is taken.
+use mathlib.Core.Path.{sym, ◌∙◌}
+use Rattle.truth.specs.inner.Rows.{row_has}
+use Rattle.truth.proofs.rows.RowLaws.{held_in}
+use Rattle.comparison.proofs.Surveys.{one_only}
+use Rattle.comparison.proofs.signatures.at_most_one.Goals as goal
+
+pub returns : goal.returns
+returns c =
+    let w = c.without in
+    record {
+      node = c.first.result;
+      only = λ e. one_only (row_has c.args.row) (row_has w.result) _ (held_in w.result.low w.result.high) w.ensures (sym c.is_empty.ensures ∙ e);
+    }
