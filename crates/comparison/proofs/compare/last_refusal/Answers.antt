@@ -4,9 +4,10 @@ use native.Mathlib.Omega.{arith}
 use Rattle.truth.specs.Passed.{signals}
 use Rattle.comparison.proofs.CompareTable.{by-signals, by-nodes, by-space, by-none}
 use Rattle.comparison.proofs.compare.last_refusal.Goals as goal
+use Rattle.comparison.proofs.compare.last_refusal.Goals.{Else-a-signals}
 
 -- where the first test goes on, the signals agree
-same : (c : goal.Else-a-signals) → signals c.args.m1.now ≡ signals c.args.m2.now
+same : (c : Else-a-signals) → signals c.args.m1.now ≡ signals c.args.m2.now
 same c = sym c.signals-a.ensures ∙ c.if-a-signals.false ∙ c.signals.ensures
 
 pub returns-then-a-signals : goal.returns-then-a-signals

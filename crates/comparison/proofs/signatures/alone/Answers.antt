@@ -1,5 +1,4 @@
 -- `alone` meets its contract: each row has at most one node, and one of them has none.
-use borrow.Author.Tests.{not-false}
 use mathlib.Core.Path.{sym, ◌∙◌}
 use mathlib.Core.Bool.{true≢false}
 use Rattle.truth.specs.inner.Rows.{row_has}
@@ -20,7 +19,7 @@ returns-then-is_empty c =
     λ e. record {
       node = two.ensures.node;
       first = λ s t. absurd (none s t);
-      second = two.ensures.only (not-false two.result c.if-not-at_most_one-2.false-raw);
+      second = two.ensures.only c.if-not-at_most_one-2.false;
       apart = λ s t x y. none s x;
     }
 
@@ -32,7 +31,7 @@ returns c =
     let none = none_passes (row_has a.row2) (held_in a.row2.low a.row2.high) (sym c.is_empty-2.ensures ∙ e) in
     record {
       node = one.ensures.node;
-      first = one.ensures.only (not-false one.result c.if-not-at_most_one.false);
+      first = one.ensures.only c.if-not-at_most_one.false;
       second = λ s t. absurd (none s t);
       apart = λ s t x y. none t y;
     }
