@@ -6,8 +6,7 @@ use Prim.Native.Nat.{ℕ, suc, ◌+◌, ◌-◌, ◌≤◌, ◌<◌}
 use native.Mathlib.Nat.{mul-le-mul}
 use native.Mathlib.Omega.{arith}
 use mathlib.Core.List.{List}
-use mathlib.Core.Bool.{Bool, true, false, not}
-use borrow.Author.Tests.{not-true, not-false}
+use mathlib.Core.Bool.{Bool, true, false}
 use lib.ListN.{get_or}
 use lib.Dec.{T}
 use Rattle.sheets.specs.Format.{nodes_most}
@@ -38,14 +37,14 @@ module _ {M R next back rows : List ℕ} {arg : ℕ → ℕ} {x : ℕ} (path : P
   has-holds : T b ↔ Holds M R rows arg x exchanged s
   has-holds = rw eb ((path-row-of path solved el eh).truth s lo hi)
 
-  pub none-shown : not b ≡ true → (list names : List ℕ) → ShowsLine M R rows arg x exchanged s list names NoPath
+  pub none-shown : b ≡ false → (list names : List ℕ) → ShowsLine M R rows arg x exchanged s list names NoPath
   unfolding ShowsLine
-  none-shown n list names h = subst T (not-true b n) (has-holds.1 h)
+  none-shown n list names h = subst T n (has-holds.1 h)
 
   -- it has the node; with the number of positions and that of nodes as the code has them
-  module _ (some : not b ≡ false) {t n : ℕ} (counts : t ≡ state_count R x) (counted : n ≡ nodes M) where
+  module _ (some : b ≡ true) {t n : ℕ} (counts : t ≡ state_count R x) (counted : n ≡ nodes M) where
     had : T b
-    had = subst T (sym (not-false b some)) tt
+    had = subst T (sym some) tt
 
     few : t ≤ positions_most
     few = rw counts (states-few path)

@@ -1,6 +1,6 @@
 -- A search for a step from a pair into a set: through the positions, and through the nodes of a row for one that passes a test.
 use mathlib.Core.Path.{◌≡◌, refl}
-use mathlib.Core.Logic.{◌⊎◌, ⊎_elim}
+use mathlib.Core.Logic.{⊎_elim}
 use Prim.Native.Nat.{ℕ, ◌+◌, ◌<◌}
 use native.Mathlib.Omega.{arith}
 use mathlib.Core.List.{List}
@@ -58,10 +58,10 @@ module _ (allow next : List ℕ) (t p u : ℕ) where
   pub none_first : (W : ℕ → ℕ → Type 0) → NoneBelow W 0
   none_first W j v l = absurd (omega arith)
 
-  -- one position more, in either case
-  pub none-next : {A B : Type 0} (W : ℕ → ℕ → Type 0) (k : ℕ) → NoneBelow W k → A ⊎ B
-      → (A → (v : ℕ) → PairStep allow next t p u k v → W k v → ⊥) → (B → (v : ℕ) → PairStep allow next t p u k v → W k v → ⊥) → NoneBelow W (k + 1)
-  none-next W k h came f g j v l = below_more (λ j. (v : ℕ) → PairStep allow next t p u j v → W j v → ⊥) k (λ j l v. h j v l) (⊎_elim f g came) j l v
+  -- one position more
+  pub none-next : (W : ℕ → ℕ → Type 0) (k : ℕ) → NoneBelow W k
+      → ((v : ℕ) → PairStep allow next t p u k v → W k v → ⊥) → NoneBelow W (k + 1)
+  none-next W k h here j v l = below_more (λ j. (v : ℕ) → PairStep allow next t p u j v → W j v → ⊥) k (λ j l v. h j v l) here j l v
 
   -- the automaton may not go there at u
   pub not-allowed : (k v : ℕ) → rows_has allow (cell p k) u ≡ false → PairStep allow next t p u k v → ⊥

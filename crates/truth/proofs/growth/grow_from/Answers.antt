@@ -15,12 +15,6 @@ use Rattle.truth.proofs.tables.TableLaws.{emptied}
 use Rattle.truth.proofs.growth.Spreading.{spread_none, spread-more, spread_same, among_none, among_next, among-end}
 use Rattle.truth.proofs.growth.grow_from.Goals as goal
 
-cleared : (c : goal.After-store) → Cleared c.args.p2 c.args.new.now c.store.new.rows
-cleared c =
-    let a = c.args in
-    let pre = c.requires in
-    emptied a.new.now _ a.p2 _ _ (omega (arith, pre.0, pre.1, pre.3)) c.store.ensures c.empty.ensures
-
 -- the member that is found
 few : (c : goal.Else-u-eq0) → (1 ≤ c.first-u.result) × (c.first-u.result ≤ c.args.t)
 few c =
@@ -69,11 +63,12 @@ returns-then-u-eq0 c =
     among-end (row_has from.result) enter (row_has l.left) a.t none
     (λ u t. pre.4.few a.p2 u (rw (from.ensures.0, from.ensures.1) at t))
     (λ p s h x. rw (from.ensures.0, from.ensures.1) (pre.4.all a.p2 p s pre.0 h (and_left (rows_has a.allow.now (cell p a.p2) s) (row_has prev.result s) x))) in
+    let clears : Cleared a.p2 a.new.now c.store.new.rows = emptied a.new.now _ a.p2 _ _ (omega (arith, pre.0, pre.1, pre.3)) c.store.ensures c.empty.ensures in
     record {
       prev = row_has prev.result;
       before = before;
       cleared = c.store.new.rows;
-      clears = cleared (search);
+      clears = clears;
       spread = spread_same same l.invariant.1;
     }
 
@@ -90,7 +85,9 @@ pub grow_one-requires : goal.grow_one-requires
 grow_one-requires c =
     let pre = c.requires in
     let g = c.loop-prev.invariant.1 in
-    (omega (arith, few (search), pre.1), omega (arith, pre.0, pre.1), g.ys-size ∙ pre.2, g.new-size ∙ (cleared (search)).size ∙ pre.3)
+    let a = c.args in
+    let clears : Cleared a.p2 a.new.now c.store.new.rows = emptied a.new.now _ a.p2 _ _ (omega (arith, pre.0, pre.1, pre.3)) c.store.ensures c.empty.ensures in
+    (omega (arith, few (search), pre.1), omega (arith, pre.0, pre.1), g.ys-size ∙ pre.2, g.new-size ∙ clears.size ∙ pre.3)
 
 pub loop-prev-smaller : goal.loop-prev-smaller
 loop-prev-smaller c =

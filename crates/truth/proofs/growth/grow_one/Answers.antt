@@ -11,16 +11,6 @@ use Rattle.truth.proofs.tables.TableLaws.{stored-length, stored_more}
 use Rattle.truth.proofs.growth.RowAdditions.{spread-one, spread-empty, no-time-put}
 use Rattle.truth.proofs.growth.grow_one.Goals as goal
 
--- the nodes at p that step to p2 and are not met
-extra : (c : goal.After-difference-extra) (s : ℕ)
-    → row_has c.difference-extra.result s
-    ≡ (enters c.args.allow.now c.args.p2 (row_has c.args.prev) c.args.p s
-    && not (rows_has c.args.ys.now c.args.p s))
-extra c s =
-    let may = c.load.ensures in
-    let here = c.load-here.ensures in
-    rw (c.intersection.ensures s, may.0, may.1, here.0, here.1) at (c.difference-extra.ensures s)
-
 pub load-here-requires : goal.load-here-requires
 load-here-requires c = omega arith
 
@@ -45,7 +35,8 @@ is_empty-requires c = omega arith
 pub returns-then-is_empty : goal.returns-then-is_empty
 returns-then-is_empty c =
     let a = c.args in
-    spread-empty (enters a.allow.now a.p2 (row_has a.prev) a.p) _ _ _ _ _ _ _ (extra (search)) (sym c.if-is_empty.true ∙ c.is_empty.ensures)
+    let here = c.load-here.ensures in
+    spread-empty (enters a.allow.now a.p2 (row_has a.prev) a.p) _ _ _ _ _ _ _ (λ s. rw (c.intersection.ensures s, c.load.ensures.0, c.load.ensures.1, here.0, here.1) at (c.difference-extra.ensures s)) (sym c.if-is_empty.true ∙ c.is_empty.ensures)
 
 pub union-requires : goal.union-requires
 union-requires c = omega arith
@@ -66,34 +57,36 @@ pub put_time-requires : goal.put_time-requires
 put_time-requires c = (c.requires.0, omega (arith, c.if-times-lt-PAIRS.false))
 
 pub returns-then-times-lt-PAIRS : goal.returns-then-times-lt-PAIRS
-returns-then-times-lt-PAIRS c = (λ times put. let a = c.args in
+returns-then-times-lt-PAIRS c =
+    let a = c.args in
     let here = c.load-here.ensures in
     let long : row_words * a.p + 1 < length a.ys.now = omega arith in
     let long' : row_words * a.p + 1 < length a.new.now = omega arith in
     let e = c.store.ensures in
     let f = c.store-2.ensures in
     let new = c.load-fresh.ensures in
-    spread-one (enters a.allow.now a.p2 (row_has a.prev) a.p) _ _ _ _ _ _ _ _ _ (extra (search))
+    spread-one (enters a.allow.now a.p2 (row_has a.prev) a.p) _ _ _ _ _ _ _ _ _ (λ s. rw (c.intersection.ensures s, c.load.ensures.0, c.load.ensures.1, here.0, here.1) at (c.difference-extra.ensures s))
     (rw e (stored-length a.ys.now a.p _ _ long))
     (rw f (stored-length a.new.now a.p _ _ long'))
     (rw e (stored_more a.ys.now a.p _ _ long (row_has c.difference-extra.result) (λ s. rw (here.0, here.1) at (c.union.ensures s))))
     (rw f (stored_more a.new.now a.p _ _ long' (row_has c.difference-extra.result) (λ s. rw (new.0, new.1) at (c.union-2.ensures s))))
-    put) _ (no-time-put (λ room. omega (arith, c.if-times-lt-PAIRS.true, room)))
+    (no-time-put (λ room. omega (arith, c.if-times-lt-PAIRS.true, room)))
 
 pub shape_of-times : goal.shape_of-times
 shape_of-times c = c.put_time.ensures.size
 
 pub returns : goal.returns
-returns c = (λ times put. let a = c.args in
+returns c =
+    let a = c.args in
     let here = c.load-here.ensures in
     let long : row_words * a.p + 1 < length a.ys.now = omega arith in
     let long' : row_words * a.p + 1 < length a.new.now = omega arith in
     let e = c.store.ensures in
     let f = c.store-2.ensures in
     let new = c.load-fresh.ensures in
-    spread-one (enters a.allow.now a.p2 (row_has a.prev) a.p) _ _ _ _ _ _ _ _ _ (extra (search))
+    spread-one (enters a.allow.now a.p2 (row_has a.prev) a.p) _ _ _ _ _ _ _ _ _ (λ s. rw (c.intersection.ensures s, c.load.ensures.0, c.load.ensures.1, here.0, here.1) at (c.difference-extra.ensures s))
     (rw e (stored-length a.ys.now a.p _ _ long))
     (rw f (stored-length a.new.now a.p _ _ long'))
     (rw e (stored_more a.ys.now a.p _ _ long (row_has c.difference-extra.result) (λ s. rw (here.0, here.1) at (c.union.ensures s))))
     (rw f (stored_more a.new.now a.p _ _ long' (row_has c.difference-extra.result) (λ s. rw (new.0, new.1) at (c.union-2.ensures s))))
-    put) _ c.put_time.ensures
+    c.put_time.ensures

@@ -1,5 +1,4 @@
 -- `grow_round` meets its contract. The invariant: turns led here, and where there was none the positions passed have nothing new. The measure is how many positions are left.
-use borrow.Author.Tests.{not-true, not-false}
 use borrow.Author.Count.{below_more}
 use mathlib.Core.Path.{◌≡◌, sym, ◌∙◌}
 use Prim.Native.Nat.{◌-◌}
@@ -34,7 +33,9 @@ grow_from-requires c =
 pub overflow_add-at : goal.overflow_add-at
 overflow_add-at c =
     let l = c.loop-k in
-    let some = (let h : each members_most (λ s. not (rows_has c.loop-k.new c.loop-k.k s)) ≡ c.is_empty.result = let row = c.load.ensures in rw (row.0, row.1) at (sym c.is_empty.ensures) in h) ∙ not-true _ c.if-not-is_empty.true in
+    let row = c.load.ensures in
+    let tested : each members_most (λ s. not (rows_has l.new l.k s)) ≡ c.is_empty.result = rw (row.0, row.1) at (sym c.is_empty.ensures) in
+    let some = tested ∙ c.if-not-is_empty.true in
     let turn = turns-one (omega arith) (omega arith) c.grow_from.ensures some in
     omega (arith, turn.fewer, l.invariant.1.fewer, c.requires.1)
 
@@ -44,7 +45,9 @@ loop-k-smaller-then-not-is_empty c = omega arith
 pub loop-k-preserved-then-not-is_empty : goal.loop-k-preserved-then-not-is_empty
 loop-k-preserved-then-not-is_empty c =
     let l = c.loop-k in
-    let some = (let h : each members_most (λ s. not (rows_has c.loop-k.new c.loop-k.k s)) ≡ c.is_empty.result = let row = c.load.ensures in rw (row.0, row.1) at (sym c.is_empty.ensures) in h) ∙ not-true _ c.if-not-is_empty.true in
+    let row = c.load.ensures in
+    let tested : each members_most (λ s. not (rows_has l.new l.k s)) ≡ c.is_empty.result = rw (row.0, row.1) at (sym c.is_empty.ensures) in
+    let some = tested ∙ c.if-not-is_empty.true in
     let turn = turns-one (omega arith) (omega arith) c.grow_from.ensures some in
     (omega arith, turns_more l.invariant.1 turn, λ e. absurd (omega (arith, l.invariant.1.later)))
 
@@ -54,7 +57,9 @@ loop-k-smaller c = omega arith
 pub loop-k-preserved : goal.loop-k-preserved
 loop-k-preserved c =
     let l = c.loop-k in
-    let none = (let h : each members_most (λ s. not (rows_has c.loop-k.new c.loop-k.k s)) ≡ c.is_empty.result = let row = c.load.ensures in rw (row.0, row.1) at (sym c.is_empty.ensures) in h) ∙ not-false _ c.if-not-is_empty.false-raw in
+    let row = c.load.ensures in
+    let tested : each members_most (λ s. not (rows_has l.new l.k s)) ≡ c.is_empty.result = rw (row.0, row.1) at (sym c.is_empty.ensures) in
+    let none = tested ∙ c.if-not-is_empty.false in
     (omega arith, l.invariant.1, λ e. below_more (NoRow l.new) l.k (l.invariant.2 e) (none_passes (rows_has l.new l.k) (held_in _ _) none))
 
 pub shape_of-times : goal.shape_of-times

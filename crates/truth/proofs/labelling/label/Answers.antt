@@ -15,15 +15,6 @@ use Rattle.truth.proofs.rows.RowLaws.{tally-number}
 use Rattle.truth.proofs.labelling.LabelAnswers.{refused, done}
 use Rattle.truth.proofs.labelling.label.Goals as goal
 
--- where no question refuses, both sheets are accepted, and the space is enough
-accepted : (c : goal.Else-question-ne0)
-    → (machine_refusal c.args.m.now ≡ 0) × ((rule_refusal lent c.args.r.now ≡ 0) × (row_words * lines c.args.r.now ≤ length c.args.rows.now))
-accepted c =
-    let a = c.args in
-    let e = sym c.if-question-ne0.false ∙ c.label_refusal-question.ensures in
-    let space = length a.rows.now in
-    (machine-accepted a.m.now a.r.now space e, (rules-accepted a.m.now a.r.now space e, space-enough a.m.now a.r.now space e))
-
 pub label_refusal-question-requires : goal.label_refusal-question-requires
 label_refusal-question-requires c = omega arith
 
@@ -40,32 +31,48 @@ lines-l-requires c = omega arith
 
 pub label_lines-requires : goal.label_lines-requires
 label_lines-requires c =
-    let s = accepted (search) in
+    let a = c.args in
+    let e = sym c.if-question-ne0.false ∙ c.label_refusal-question.ensures in
+    let space = length a.rows.now in
+    let machine = machine-accepted a.m.now a.r.now space e in
+    let rules = rules-accepted a.m.now a.r.now space e in
+    let enough = space-enough a.m.now a.r.now space e in
     let l = c.lines-l.ensures in
-    (s.0, (s.1.0, (omega arith, omega (arith, s.1.1))))
+    (machine, (rules, (omega arith, omega arith)))
 
 pub overflow_cast-l : goal.overflow_cast-l
 overflow_cast-l c = omega arith
 
 pub line_row-last-requires : goal.line_row-last-requires
 line_row-last-requires c =
-    let s = accepted (search) in
-    let some = some-line lent _ s.1.0 in
+    let a = c.args in
+    let e = sym c.if-question-ne0.false ∙ c.label_refusal-question.ensures in
+    let space = length a.rows.now in
+    let rules = rules-accepted a.m.now a.r.now space e in
+    let enough = space-enough a.m.now a.r.now space e in
+    let some = some-line lent _ rules in
     let l = c.lines-l.ensures in
-    (omega arith, omega (arith, s.1.1, c.label_lines.ensures.size))
+    (omega arith, omega (arith, c.label_lines.ensures.size))
 
 pub count-count-requires : goal.count-count-requires
 count-count-requires c = omega arith
 
 pub keeps-requires : goal.keeps-requires
-keeps-requires c = (nodes-sized _ (accepted (search)).0).1
+keeps-requires c =
+    let a = c.args in
+    let e = sym c.if-question-ne0.false ∙ c.label_refusal-question.ensures in
+    let space = length a.rows.now in
+    (nodes-sized _ (machine-accepted a.m.now a.r.now space e)).1
 
 pub nodes-requires : goal.nodes-requires
 nodes-requires c = omega arith
 
 pub percent-requires : goal.percent-requires
 percent-requires c =
-    let sized = nodes-sized _ (accepted (search)).0 in
+    let a = c.args in
+    let e = sym c.if-question-ne0.false ∙ c.label_refusal-question.ensures in
+    let space = length a.rows.now in
+    let sized = nodes-sized _ (machine-accepted a.m.now a.r.now space e) in
     (rw (c.count-count.ensures, tally-number members_most (row_has c.line_row-last.result)) (number-most members_most _), omega (arith, c.nodes.ensures))
 
 pub returns : goal.returns

@@ -9,14 +9,8 @@ use Rattle.truth.proofs.labelling.percent.Goals as goal
 pub overflow_mul-q : goal.overflow_mul-q
 overflow_mul-q c = omega arith
 
-pub ?Need-nonzero-div-q : goal.?Need-nonzero-div-q
-?Need-nonzero-div-q c = omega arith
-
 pub overflow_mul-twice : goal.overflow_mul-twice
 overflow_mul-twice c = omega arith
-
-pub ?Need-nonzero-rem-twice : goal.?Need-nonzero-rem-twice
-?Need-nonzero-rem-twice c = omega arith
 
 pub overflow_mul-twice-2 : goal.overflow_mul-twice-2
 overflow_mul-twice-2 c = omega (arith, mod-le (100 * c.args.c) c.args.n)

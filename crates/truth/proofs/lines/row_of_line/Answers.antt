@@ -20,28 +20,28 @@ pub signal_row-requires : goal.signal_row-requires
 signal_row-requires c = omega arith
 
 pub negation_row-requires : goal.negation_row-requires
-negation_row-requires c = negation-above c.requires ((λ e. told c.args.r.now c.args.j c.decode-decoded.ensures c.in-Formed.is e) c.in-Negation.is)
+negation_row-requires c = negation-above c.requires (told c.args.r.now c.args.j c.decode-decoded.ensures c.in-Formed.is c.in-Negation.is)
 
 pub either_row-requires : goal.either_row-requires
-either_row-requires c = either-above c.requires ((λ e. told c.args.r.now c.args.j c.decode-decoded.ensures c.in-Formed.is e) c.in-Either.is)
+either_row-requires c = either-above c.requires (told c.args.r.now c.args.j c.decode-decoded.ensures c.in-Formed.is c.in-Either.is)
 
 pub path_row-requires : goal.path_row-requires
-path_row-requires c = path-ready c.requires false _ ((λ e. told c.args.r.now c.args.j c.decode-decoded.ensures c.in-Formed.is e) c.in-SomePath.is)
+path_row-requires c = path-ready c.requires false _ (told c.args.r.now c.args.j c.decode-decoded.ensures c.in-Formed.is c.in-SomePath.is)
 
 pub path_row-requires-in-SomePathNot : goal.path_row-requires-in-SomePathNot
-path_row-requires-in-SomePathNot c = path-ready c.requires true _ ((λ e. told c.args.r.now c.args.j c.decode-decoded.ensures c.in-Formed.is e) c.in-SomePathNot.is)
+path_row-requires-in-SomePathNot c = path-ready c.requires true _ (told c.args.r.now c.args.j c.decode-decoded.ensures c.in-Formed.is c.in-SomePathNot.is)
 
 pub returns-in-Signal : goal.returns-in-Signal
-returns-in-Signal c = signal-row c.requires ((λ e. told c.args.r.now c.args.j c.decode-decoded.ensures c.in-Formed.is e) c.in-Signal.is) c.signal_row.ensures
+returns-in-Signal c = signal-row c.requires (told c.args.r.now c.args.j c.decode-decoded.ensures c.in-Formed.is c.in-Signal.is) c.signal_row.ensures
 
 pub returns-in-Negation : goal.returns-in-Negation
-returns-in-Negation c = negation-row c.requires ((λ e. told c.args.r.now c.args.j c.decode-decoded.ensures c.in-Formed.is e) c.in-Negation.is) c.negation_row.ensures
+returns-in-Negation c = negation-row c.requires (told c.args.r.now c.args.j c.decode-decoded.ensures c.in-Formed.is c.in-Negation.is) c.negation_row.ensures
 
 pub returns-in-Either : goal.returns-in-Either
-returns-in-Either c = either-row c.requires ((λ e. told c.args.r.now c.args.j c.decode-decoded.ensures c.in-Formed.is e) c.in-Either.is) c.either_row.ensures
+returns-in-Either c = either-row c.requires (told c.args.r.now c.args.j c.decode-decoded.ensures c.in-Formed.is c.in-Either.is) c.either_row.ensures
 
 pub returns-in-SomePath : goal.returns-in-SomePath
-returns-in-SomePath c = path-row c.requires false _ ((λ e. told c.args.r.now c.args.j c.decode-decoded.ensures c.in-Formed.is e) c.in-SomePath.is) c.path_row.ensures
+returns-in-SomePath c = path-row c.requires false _ (told c.args.r.now c.args.j c.decode-decoded.ensures c.in-Formed.is c.in-SomePath.is) c.path_row.ensures
 
 pub returns-in-SomePathNot : goal.returns-in-SomePathNot
-returns-in-SomePathNot c = path-row c.requires true _ ((λ e. told c.args.r.now c.args.j c.decode-decoded.ensures c.in-Formed.is e) c.in-SomePathNot.is) c.path_row-in-SomePathNot.ensures
+returns-in-SomePathNot c = path-row c.requires true _ (told c.args.r.now c.args.j c.decode-decoded.ensures c.in-Formed.is c.in-SomePathNot.is) c.path_row-in-SomePathNot.ensures

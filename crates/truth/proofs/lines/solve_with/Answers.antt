@@ -32,21 +32,21 @@ allow_table-requires c =
     )
 
 pub good_table-goods-requires : goal.good_table-goods-requires
-good_table-goods-requires c = (row-start c).requires.0.few
+good_table-goods-requires c = c.requires.0.few
 
 pub overflow_cast-t : goal.overflow_cast-t
 overflow_cast-t c = omega arith
 
 pub trim-lasting-requires : goal.trim-lasting-requires
 trim-lasting-requires c =
-    ((row-start c).requires.0.few, c.allow_table.ensures.into, c.allow_table.ensures.onto)
+    (c.requires.0.few, c.allow_table.ensures.into, c.allow_table.ensures.onto)
 
 pub overflow_cast-t-2 : goal.overflow_cast-t-2
-overflow_cast-t-2 c = let few = (row-start c).requires.0.few in omega (arith, few)
+overflow_cast-t-2 c = let few = c.requires.0.few in omega (arith, few)
 
 pub grow-reached-requires : goal.grow-reached-requires
 grow-reached-requires c =
-    let pre = (row-start c).requires in
+    let pre = c.requires in
     (pre.0.few, pre.3, c.allow_table.ensures.into)
 
 pub returns : goal.returns

@@ -10,34 +10,25 @@ use Rattle.sheets.specs.Rules.{lent, lines, rule_refusal}
 use Rattle.truth.proofs.path.PathMade.{rows_fit, refused, machine-accepted, rules-accepted, line-in, show-ready, shown}
 use Rattle.truth.proofs.path.make.Goals as goal
 
--- where no question refuses, both sheets are accepted
-machine : (c : goal.Else-question-ne0) → machine_refusal c.args.m.now ≡ 0
-machine c =
-    let a = c.args in machine-accepted a.m.now a.r.now a.line a.node a.room _ c.path_refusal-question.ensures c.if-question-ne0.false
-
-rules : (c : goal.Else-question-ne0) → rule_refusal lent c.args.r.now ≡ 0
-rules c =
-    let a = c.args in rules-accepted a.m.now a.r.now a.line a.node a.room _ c.path_refusal-question.ensures c.if-question-ne0.false
-
 pub returns-then-question-ne0 : goal.returns-then-question-ne0
 returns-then-question-ne0 c =
     let a = c.args in
     refused a.m.now a.r.now a.line a.node a.room _ c.path_refusal-question.ensures _ _ _ c.if-question-ne0.true c.sheet_of.ensures
 
--- the asked line is one of the sheet
-line : (c : goal.After-rows-1) → (1 ≤ c.asked-j.result) × (c.asked-j.result ≤ lines c.args.r.now)
-line c =
-    let a = c.args in
-    line-in a.m.now a.r.now a.line a.node a.room _ c.path_refusal-question.ensures c.if-question-ne0.false _ c.asked-j.ensures
-
 pub overflow_sub-j : goal.overflow_sub-j
-overflow_sub-j c = omega (arith, (line c).0)
+overflow_sub-j c =
+    let a = c.args in
+    let l = line-in a.m.now a.r.now a.line a.node a.room _ c.path_refusal-question.ensures c.if-question-ne0.false _ c.asked-j.ensures in
+    omega (arith, l.0)
 
 pub label_lines-requires : goal.label_lines-requires
 label_lines-requires c =
-    let l = line c in
-    let fit = rows_fit _ (rules (search)) in
-    (machine (search), (rules (search), (omega arith, omega arith)))
+    let a = c.args in
+    let l = line-in a.m.now a.r.now a.line a.node a.room _ c.path_refusal-question.ensures c.if-question-ne0.false _ c.asked-j.ensures in
+    let machine = machine-accepted a.m.now a.r.now a.line a.node a.room _ c.path_refusal-question.ensures c.if-question-ne0.false in
+    let accepted = rules-accepted a.m.now a.r.now a.line a.node a.room _ c.path_refusal-question.ensures c.if-question-ne0.false in
+    let fit = rows_fit _ accepted in
+    (machine, (accepted, (omega arith, omega arith)))
 
 pub show_line-requires : goal.show_line-requires
 show_line-requires c =

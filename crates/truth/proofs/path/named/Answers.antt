@@ -10,21 +10,21 @@ use Rattle.sheets.proofs.Positions.{stored}
 use Rattle.truth.specs.Sizes.{positions_most}
 use Rattle.truth.proofs.path.named.Goals as goal
 
--- the position that is named next
-small : (c : goal.In-loop-i) → get_or c.loop-i.out c.loop-i.i 0 < positions_most
-small c = rw (c.loop-i.invariant.3 c.loop-i.i (omega arith)) (c.requires.1 c.loop-i.i (omega arith))
-
 pub loop-i-init : goal.loop-i-init
 loop-i-init c = (omega arith, search rules, λ j l. absurd (omega arith), λ j l. refl)
 
 pub overflow_cast-out : goal.overflow_cast-out
-overflow_cast-out c = let h = small (search) in omega arith
+overflow_cast-out c =
+    let small : get_or c.loop-i.out c.loop-i.i 0 < positions_most = rw (c.loop-i.invariant.3 c.loop-i.i (omega arith)) (c.requires.1 c.loop-i.i (omega arith)) in
+    omega arith
 
 pub offset_bounds-states-p : goal.offset_bounds-states-p
-offset_bounds-states-p c = let h = small (search) in omega arith
+offset_bounds-states-p c =
+    let small : get_or c.loop-i.out c.loop-i.i 0 < positions_most = rw (c.loop-i.invariant.3 c.loop-i.i (omega arith)) (c.requires.1 c.loop-i.i (omega arith)) in
+    omega arith
 
 pub bounds-states-p : goal.bounds-states-p
-bounds-states-p c = small (search)
+bounds-states-p c = rw (c.loop-i.invariant.3 c.loop-i.i (omega arith)) (c.requires.1 c.loop-i.i (omega arith))
 
 pub loop-i-preserved : goal.loop-i-preserved
 loop-i-preserved c =

@@ -9,40 +9,31 @@ use Rattle.truth.proofs.path.ShownPaths.{count_most, answered}
 use borrow.Author.Rules.{rules}
 use Rattle.truth.proofs.path.path_lists.Goals as goal
 
--- the lists that were made have room for every pair
-long-nodes : (c : goal.After-make_within-made) → length c.make_within-made.result.nodes ≡ pairs_most
-long-nodes c = search rules
-
-long-states : (c : goal.After-make_within-made) → length c.make_within-made.result.states ≡ pairs_most
-long-states c = search rules
-
 pub write_nodes-requires : goal.write_nodes-requires
 write_nodes-requires c =
+    let made = c.make_within-made in
+    let a = c.args in
+    let few = count_most a.m.now a.r.now a.line a.node _ made.result.nodes made.result.states _ made.result.answer made.ensures c.length_of-count.ensures in
+    let long-nodes : length c.make_within-made.result.nodes ≡ pairs_most = search rules in
     let least = c.least.ensures in
-    (omega (arith, (let h : c.length_of-count.result ≤ min c.least.result pairs_most = let made = c.make_within-made in
-    let a = c.args in
-    count_most a.m.now a.r.now a.line a.node _ made.result.nodes made.result.states _ made.result.answer
-    made.ensures c.length_of-count.ensures in h)), long-nodes (search), omega (arith, (let h : c.length_of-count.result ≤ min c.least.result pairs_most = let made = c.make_within-made in
-    let a = c.args in
-    count_most a.m.now a.r.now a.line a.node _ made.result.nodes made.result.states _ made.result.answer
-    made.ensures c.length_of-count.ensures in h), least))
+    (omega (arith, few), long-nodes, omega (arith, few, least))
 
 pub write_first-requires : goal.write_first-requires
 write_first-requires c =
+    let made = c.make_within-made in
+    let a = c.args in
+    let few = count_most a.m.now a.r.now a.line a.node _ made.result.nodes made.result.states _ made.result.answer made.ensures c.length_of-count.ensures in
+    let long-states : length c.make_within-made.result.states ≡ pairs_most = search rules in
     let least = c.least.ensures in
-    (omega (arith, (let h : c.length_of-count.result ≤ min c.least.result pairs_most = let made = c.make_within-made in
-    let a = c.args in
-    count_most a.m.now a.r.now a.line a.node _ made.result.nodes made.result.states _ made.result.answer
-    made.ensures c.length_of-count.ensures in h)), long-states (search), omega (arith, (let h : c.length_of-count.result ≤ min c.least.result pairs_most = let made = c.make_within-made in
-    let a = c.args in
-    count_most a.m.now a.r.now a.line a.node _ made.result.nodes made.result.states _ made.result.answer
-    made.ensures c.length_of-count.ensures in h), least))
+    (omega (arith, few), long-states, omega (arith, few, least))
 
 pub returns : goal.returns
 returns c =
     let made = c.make_within-made in
     let a = c.args in
     let least = c.least.ensures in
+    let long-nodes : length c.make_within-made.result.nodes ≡ pairs_most = search rules in
+    let long-states : length c.make_within-made.result.states ≡ pairs_most = search rules in
     answered a.m.now a.r.now a.line a.node _ made.result.nodes made.result.states a.nodes.now a.states.now _ _
-    (omega (arith, least)) (omega (arith, long-nodes (search))) (omega (arith, long-states (search))) _ made.result.answer
+    (omega (arith, least)) (omega arith) (omega arith) _ made.result.answer
     made.ensures c.length_of-count.ensures c.write_nodes.ensures c.write_first.ensures

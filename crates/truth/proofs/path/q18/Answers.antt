@@ -1,23 +1,43 @@
 -- `q18` meets its contract: its three tests in the order in which the code makes them.
-use mathlib.Core.Bool.{true}
+use mathlib.Core.Path.{◌≡◌, refl}
+use Prim.Native.Nat.{ℕ}
+use mathlib.Core.List.{List}
+use mathlib.Core.Bool.{Bool, true, false}
+use Rattle.sheets.specs.Format.{operation_place}
+use Rattle.sheets.specs.Operations.{some_path_operation, some_path_not_operation}
 use Rattle.sheets.specs.Words.{within}
 use Rattle.sheets.specs.Machine.{nodes}
-use Rattle.sheets.specs.Rules.{lines}
+use Rattle.sheets.specs.Rules.{lent, lines, line_word}
+use Rattle.truth.specs.Path.{asked, q18}
 use Rattle.truth.proofs.path.q18.Goals as goal
+
+module _ (M R : List ℕ) (j s k l n w : ℕ) (a b d : Bool) (ek : k ≡ asked R j) (el : l ≡ lines R) (ea : a ≡ within 1 l k) where
+  no_line : a ≡ false → false ≡ q18 M R j s
+  unfolding q18
+  no_line x = rw (← ek, ← el, ← ea, x) refl
+
+  module _ (x : a ≡ true) (en : n ≡ nodes M) (eb : b ≡ within 1 n s) where
+    no_node : b ≡ false → false ≡ q18 M R j s
+    unfolding q18
+    no_node y = rw (← ek, ← el, ← ea, x, ← en, ← eb, y) refl
+
+    last-test : b ≡ true → w ≡ line_word lent R k operation_place → d ≡ within some_path_operation some_path_not_operation w → d ≡ q18 M R j s
+    unfolding q18
+    last-test y ew ed = rw (← ek, ← el, ← ea, x, ← en, ← eb, y, ← ew, ← ed) refl
 
 pub returns-then-not-within : goal.returns-then-not-within
 returns-then-not-within c =
     let k = c.asked-j in
     let l = c.lines in
-    no_line _ _ _ _ _ _ 0 0 _ true true k.ensures l.ensures c.within.ensures c.if-not-within.true-raw
+    no_line _ _ _ _ _ _ 0 0 _ true true k.ensures l.ensures c.within.ensures c.if-not-within.true
 
 pub returns-then-not-within-2 : goal.returns-then-not-within-2
 returns-then-not-within-2 c =
     no_node _ _ _ _ _ _ _ 0 _ _ true c.asked-j.ensures c.lines.ensures c.within.ensures
-    c.if-not-within.false-raw c.nodes.ensures c.within-2.ensures c.if-not-within-2.true-raw
+    c.if-not-within.false c.nodes.ensures c.within-2.ensures c.if-not-within-2.true
 
 pub returns : goal.returns
 returns c =
     last-test _ _ _ _ _ _ _ _ _ _ _ c.asked-j.ensures c.lines.ensures c.within.ensures
-    c.if-not-within.false-raw c.nodes.ensures c.within-2.ensures c.if-not-within-2.false-raw
+    c.if-not-within.false c.nodes.ensures c.within-2.ensures c.if-not-within-2.false
     c.operation.ensures c.within-3.ensures

@@ -26,14 +26,8 @@ solve-solved-requires c =
 pub returns-then-not-has : goal.returns-then-not-has
 returns-then-not-has c =
     let load = c.load-row.ensures in
-    none-shown c.requires.0 ((let h : SolvedLine (start c).args.m.now (positioned (start c).args.r.now (start c).args.p.automaton)
-    (state_count (start c).args.r.now (start c).args.p.automaton) (start c).args.next.now (start c).args.rows.now
-    (argument_of (start c).args.p) (start c).args.exchanged
-    c.solve-solved.result.allow c.solve-solved.result.lasting c.solve-solved.result.reached c.solve-solved.result.times = let a = (start c).args in
-    subst (λ (ls : List ℕ). SolvedLine a.m.now (positioned a.r.now a.p.automaton) (state_count a.r.now a.p.automaton) a.next.now a.rows.now (line_at ls) a.exchanged
-    c.solve-solved.result.allow c.solve-solved.result.lasting c.solve-solved.result.reached c.solve-solved.result.times)
-    c.arguments.ensures
-    (c.solve-solved.ensures (positioned a.r.now a.p.automaton) (state_count a.r.now a.p.automaton) (state_of a.r.now a.p.automaton) c.by_position-a.ensures) in h)) c.args.s c.requires.1.0 c.requires.1.1 load.0 load.1 c.has.ensures c.if-not-has.true-raw _ _
+    let line = rw c.arguments.ensures at (c.solve-solved.ensures _ _ _ c.by_position-a.ensures) in
+    none-shown c.requires.0 line c.args.s c.requires.1.0 c.requires.1.1 load.0 load.1 c.has.ensures c.if-not-has.true _ _
 
 pub overflow_cast-t : goal.overflow_cast-t
 overflow_cast-t c =
@@ -42,40 +36,24 @@ overflow_cast-t c =
 pub trace-found-requires : goal.trace-found-requires
 trace-found-requires c =
     let load = c.load-row.ensures in
-    traceable c.requires.0 ((let h : SolvedLine (start c).args.m.now (positioned (start c).args.r.now (start c).args.p.automaton)
-    (state_count (start c).args.r.now (start c).args.p.automaton) (start c).args.next.now (start c).args.rows.now
-    (argument_of (start c).args.p) (start c).args.exchanged
-    c.solve-solved.result.allow c.solve-solved.result.lasting c.solve-solved.result.reached c.solve-solved.result.times = let a = (start c).args in
-    subst (λ (ls : List ℕ). SolvedLine a.m.now (positioned a.r.now a.p.automaton) (state_count a.r.now a.p.automaton) a.next.now a.rows.now (line_at ls) a.exchanged
-    c.solve-solved.result.allow c.solve-solved.result.lasting c.solve-solved.result.reached c.solve-solved.result.times)
-    c.arguments.ensures
-    (c.solve-solved.ensures (positioned a.r.now a.p.automaton) (state_count a.r.now a.p.automaton) (state_of a.r.now a.p.automaton) c.by_position-a.ensures) in h)) c.args.s c.requires.1.0 c.requires.1.1 load.0 load.1 c.has.ensures c.if-not-has.false
-    c.by_position-a.ensures.count c.nodes-n.ensures ((let h : Timed c.solve-solved.result.times = let long : length c.solve-solved.result.times ≡ pairs_most = search rules in omega arith in h))
+    let line = rw c.arguments.ensures at (c.solve-solved.ensures _ _ _ c.by_position-a.ensures) in
+    let long : length c.solve-solved.result.times ≡ pairs_most = search rules in
+    let timed : Timed c.solve-solved.result.times = omega arith in
+    traceable c.requires.0 line c.args.s c.requires.1.0 c.requires.1.1 load.0 load.1 c.has.ensures c.if-not-has.false
+    c.by_position-a.ensures.count c.nodes-n.ensures timed
 
 pub named-states-requires : goal.named-states-requires
 named-states-requires c =
     let load = c.load-row.ensures in
-    list-fits c.requires.0 ((let h : SolvedLine (start c).args.m.now (positioned (start c).args.r.now (start c).args.p.automaton)
-    (state_count (start c).args.r.now (start c).args.p.automaton) (start c).args.next.now (start c).args.rows.now
-    (argument_of (start c).args.p) (start c).args.exchanged
-    c.solve-solved.result.allow c.solve-solved.result.lasting c.solve-solved.result.reached c.solve-solved.result.times = let a = (start c).args in
-    subst (λ (ls : List ℕ). SolvedLine a.m.now (positioned a.r.now a.p.automaton) (state_count a.r.now a.p.automaton) a.next.now a.rows.now (line_at ls) a.exchanged
-    c.solve-solved.result.allow c.solve-solved.result.lasting c.solve-solved.result.reached c.solve-solved.result.times)
-    c.arguments.ensures
-    (c.solve-solved.ensures (positioned a.r.now a.p.automaton) (state_count a.r.now a.p.automaton) (state_of a.r.now a.p.automaton) c.by_position-a.ensures) in h)) c.args.s c.requires.1.0 c.requires.1.1 load.0 load.1 c.has.ensures c.if-not-has.false
+    let line = rw c.arguments.ensures at (c.solve-solved.ensures _ _ _ c.by_position-a.ensures) in
+    list-fits c.requires.0 line c.args.s c.requires.1.0 c.requires.1.1 load.0 load.1 c.has.ensures c.if-not-has.false
     c.by_position-a.ensures.count c.nodes-n.ensures c.trace-found.result.nodes c.trace-found.result.positions c.trace-found.ensures
 
 pub returns : goal.returns
 returns c =
     let load = c.load-row.ensures in
+    let line = rw c.arguments.ensures at (c.solve-solved.ensures _ _ _ c.by_position-a.ensures) in
     let tabled = c.by_position-a in
-    shows-line c.requires.0 ((let h : SolvedLine (start c).args.m.now (positioned (start c).args.r.now (start c).args.p.automaton)
-    (state_count (start c).args.r.now (start c).args.p.automaton) (start c).args.next.now (start c).args.rows.now
-    (argument_of (start c).args.p) (start c).args.exchanged
-    c.solve-solved.result.allow c.solve-solved.result.lasting c.solve-solved.result.reached c.solve-solved.result.times = let a = (start c).args in
-    subst (λ (ls : List ℕ). SolvedLine a.m.now (positioned a.r.now a.p.automaton) (state_count a.r.now a.p.automaton) a.next.now a.rows.now (line_at ls) a.exchanged
-    c.solve-solved.result.allow c.solve-solved.result.lasting c.solve-solved.result.reached c.solve-solved.result.times)
-    c.arguments.ensures
-    (c.solve-solved.ensures (positioned a.r.now a.p.automaton) (state_count a.r.now a.p.automaton) (state_of a.r.now a.p.automaton) c.by_position-a.ensures) in h)) c.args.s c.requires.1.0 c.requires.1.1 load.0 load.1 c.has.ensures c.if-not-has.false
+    shows-line c.requires.0 line c.args.s c.requires.1.0 c.requires.1.1 load.0 load.1 c.has.ensures c.if-not-has.false
     tabled.ensures.count c.nodes-n.ensures c.trace-found.result.nodes c.trace-found.result.positions c.trace-found.ensures
     tabled.result.numbers c.named-states.result tabled.ensures.numbers c.named-states.ensures

@@ -7,13 +7,7 @@ use Rattle.truth.specs.inner.Rows.{row_has, rows_has}
 use Rattle.truth.specs.inner.Pairs.{edge_in}
 use Rattle.truth.proofs.trail.StepSearch.{none_first, none-next, not-allowed, leads-to, led-to}
 use Rattle.truth.proofs.trail.onward.Goals as goal
-
--- the nodes of the set at position k that an edge leads to
-ahead : (c : goal.After-intersection) (i : ℕ) → row_has c.intersection.result i ≡ (edge_in c.args.next.now c.args.u i && rows_has c.args.set.now c.loop-k.k i)
-ahead c i =
-    let to = c.load-to.ensures in
-    let there = c.load.ensures in
-    rw (to.0, to.1, there.0, there.1) at (c.intersection.ensures i)
+use Rattle.truth.proofs.trail.onward.Goals.{else-v-ne0-via-then-v-ne0+else-has, else-v-ne0-via-else-v-ne0}
 
 pub overflow_sub-u : goal.overflow_sub-u
 overflow_sub-u c = omega arith
@@ -51,9 +45,11 @@ overflow_cast-result c = omega arith
 pub returns-then-has : goal.returns-then-has
 returns-then-has c =
     let a = c.args in
+    let to = c.load-to.ensures in
+    let there = c.load.ensures in
     let may = c.load-then-v-ne0.ensures in
-    leads-to a.allow.now a.next.now a.t a.p a.u a.set.now c.loop-k.k (row_has c.intersection.result) (ahead (search)) c.first-v.result c.loop-k-test.true
-    (rw (may.0, may.1) c (sym c.has.ensures ∙ c.if-has.true))
+    leads-to a.allow.now a.next.now a.t a.p a.u a.set.now c.loop-k.k (row_has c.intersection.result) (λ i. rw (to.0, to.1, there.0, there.1) at (c.intersection.ensures i)) c.first-v.result c.loop-k-test.true
+    (rw (may.0, may.1) at (sym c.has.ensures ∙ c.if-has.true))
     (rw (c.first-v.ensures.found c.if-v-ne0.true) tt)
 
 pub overflow_add-k : goal.overflow_add-k
@@ -65,10 +61,17 @@ loop-k-smaller c = omega arith
 pub loop-k-preserved : goal.loop-k-preserved
 loop-k-preserved c =
     let a = c.args in
+    let to = c.load-to.ensures in
+    let there = c.load.ensures in
     let l = c.loop-k in
-    none-next _ _ _ _ _ _ _ l.invariant c.if-v-ne0.branch
-    (λ w v s x. not-allowed _ _ _ _ _ _ _ (rw (w.1.ensures.0, w.1.ensures.1) c (sym w.2.ensures ∙ w.3.left)) s)
-    (λ w v s x. rw (c.first-v.ensures.none w.left v) c (led-to a.allow.now a.next.now a.t a.p a.u a.set.now l.k (row_has c.intersection.result) (ahead (search)) v s x))
+    elim c.else-v-ne0.branch [
+    else-v-ne0-via-then-v-ne0+else-has w ↦
+    let may = w.load-then-v-ne0.ensures in
+    none-next _ _ _ _ _ _ _ l.invariant (λ v s x. not-allowed _ _ _ _ _ _ _ (rw (may.0, may.1) at (sym w.has.ensures ∙ w.if-has.false)) s)
+    | else-v-ne0-via-else-v-ne0 w ↦
+    none-next _ _ _ _ _ _ _ l.invariant (λ v s x. rw (c.first-v.ensures.none w.if-v-ne0.false v) at
+    (led-to a.allow.now a.next.now a.t a.p a.u a.set.now l.k (row_has c.intersection.result) (λ i. rw (to.0, to.1, there.0, there.1) at (c.intersection.ensures i)) v s x))
+    ]
 
 pub returns : goal.returns
 returns c =

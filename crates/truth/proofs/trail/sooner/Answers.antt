@@ -9,6 +9,7 @@ use Rattle.truth.specs.inner.Rows.{row_has}
 use Rattle.truth.specs.inner.Pairs.{time_of}
 use Rattle.truth.proofs.trail.StepSearch.{none_first, none-next, not-allowed, leads-to, led-to}
 use Rattle.truth.proofs.trail.sooner.Goals as goal
+use Rattle.truth.proofs.trail.sooner.Goals.{then-has+else-v-ne0, else-has}
 
 pub overflow_mul-time : goal.overflow_mul-time
 overflow_mul-time c = omega arith
@@ -84,11 +85,16 @@ loop-k-preserved c =
     let l = c.loop-k in
     let to = c.load-to.ensures in
     let may = c.load.ensures in
-    none-next _ _ _ _ _ _ _ l.invariant c.if-has.branch
-    (λ w v s x. rw (w.3.ensures.none w.4.left v) at
-    (and_both (row_has w.2.result v) (ltb (time_of a.times.now l.k v) (time_of a.times.now a.p a.u))
-    (led-to a.allow.now a.next.now a.t a.p a.u a.set.now l.k (row_has w.2.result) (λ i. rw (to.0, to.1, w.1.ensures.0, w.1.ensures.1) at (w.2.ensures i)) v s x.0) (lt→ltb _ _ x.1)))
-    (λ w v s x. not-allowed _ _ _ _ _ _ _ (rw (may.0, may.1) at (sym c.has.ensures ∙ w.left)) s)
+    elim c.if-has.branch [
+    then-has+else-v-ne0 w ↦
+    let there = w.load-then-has.ensures in
+    let row = row_has w.intersection.result in
+    none-next _ _ _ _ _ _ _ l.invariant (λ v s x. rw (w.earlier-v.ensures.none w.if-v-ne0.false v) at
+    (and_both (row v) (ltb (time_of a.times.now l.k v) (time_of a.times.now a.p a.u))
+    (led-to a.allow.now a.next.now a.t a.p a.u a.set.now l.k row (λ i. rw (to.0, to.1, there.0, there.1) at (w.intersection.ensures i)) v s x.0) (lt→ltb _ _ x.1)))
+    | else-has w ↦
+    none-next _ _ _ _ _ _ _ l.invariant (λ v s x. not-allowed _ _ _ _ _ _ _ (rw (may.0, may.1) at (sym c.has.ensures ∙ w.if-has.false)) s)
+    ]
 
 pub returns : goal.returns
 returns c =
