@@ -18,25 +18,45 @@ long-states c = search rules
 
 pub write_nodes-requires : goal.write_nodes-requires
 write_nodes-requires c =
-    let least = c.least.ensures in
-    (omega (arith, (let h : c.length_of-count.result ≤ min c.least.result pairs_most = let made = c.make_within-made in
-    let a = c.args in
-    count_most a.m.now a.r.now a.line a.node _ made.result.nodes made.result.states _ made.result.answer
-    made.ensures c.length_of-count.ensures in h)), long-nodes (search), omega (arith, (let h : c.length_of-count.result ≤ min c.least.result pairs_most = let made = c.make_within-made in
-    let a = c.args in
-    count_most a.m.now a.r.now a.line a.node _ made.result.nodes made.result.states _ made.result.answer
-    made.ensures c.length_of-count.ensures in h), least))
+    let least = c.least.ensures in (
+      omega (
+        arith,
+        (let h : c.length_of-count.result ≤ min c.least.result pairs_most = let made = c.make_within-made in
+            let a = c.args in
+            count_most a.m.now a.r.now a.line a.node _ made.result.nodes made.result.states _ made.result.answer
+            made.ensures c.length_of-count.ensures in h),
+      ),
+      long-nodes (search),
+      omega (
+        arith,
+        (let h : c.length_of-count.result ≤ min c.least.result pairs_most = let made = c.make_within-made in
+            let a = c.args in
+            count_most a.m.now a.r.now a.line a.node _ made.result.nodes made.result.states _ made.result.answer
+            made.ensures c.length_of-count.ensures in h),
+        least,
+      ),
+    )
 
 pub write_first-requires : goal.write_first-requires
 write_first-requires c =
-    let least = c.least.ensures in
-    (omega (arith, (let h : c.length_of-count.result ≤ min c.least.result pairs_most = let made = c.make_within-made in
-    let a = c.args in
-    count_most a.m.now a.r.now a.line a.node _ made.result.nodes made.result.states _ made.result.answer
-    made.ensures c.length_of-count.ensures in h)), long-states (search), omega (arith, (let h : c.length_of-count.result ≤ min c.least.result pairs_most = let made = c.make_within-made in
-    let a = c.args in
-    count_most a.m.now a.r.now a.line a.node _ made.result.nodes made.result.states _ made.result.answer
-    made.ensures c.length_of-count.ensures in h), least))
+    let least = c.least.ensures in (
+      omega (
+        arith,
+        (let h : c.length_of-count.result ≤ min c.least.result pairs_most = let made = c.make_within-made in
+            let a = c.args in
+            count_most a.m.now a.r.now a.line a.node _ made.result.nodes made.result.states _ made.result.answer
+            made.ensures c.length_of-count.ensures in h),
+      ),
+      long-states (search),
+      omega (
+        arith,
+        (let h : c.length_of-count.result ≤ min c.least.result pairs_most = let made = c.make_within-made in
+            let a = c.args in
+            count_most a.m.now a.r.now a.line a.node _ made.result.nodes made.result.states _ made.result.answer
+            made.ensures c.length_of-count.ensures in h),
+        least,
+      ),
+    )
 
 pub returns : goal.returns
 returns c =
