@@ -8,7 +8,7 @@ use mathlib.Core.Bool.{false, ◌||◌}
 use lib.Dec.{T, eqb, eqb→eq, eqb_refl}
 use Rattle.truth.specs.Passed.{Automaton, bit, kripke, nodes, automaton, machine_refusal, chain, record_word}
 use Rattle.truth.specs.Truth.{Truths, Valuation, SomePath}
-use Rattle.truth.proofs.Passed.{or_cases, or_left, first_next, first_edge, edge_stays}
+use Rattle.truth.proofs.Passed.{or_cases, or_left, first_next, first_edge-leads, edge_stays}
 use Rattle.truth.proofs.Valuations.{valued}
 use Rattle.comparison.specs.inner.Lines.{Entry, sheet}
 
@@ -113,12 +113,12 @@ module _ (M : List ℕ) (accepted : machine_refusal M ≡ 0) (A : Automaton) (is
     range (suc zero) = edge_stays M accepted s lo hi t edge
     range (suc (suc k)) =
         let h = range (suc k) in
-        edge_stays M accepted (node (suc k)) h.0 h.1 (first_next M (node (suc k))) (first_edge M accepted (node (suc k)) h.0 h.1)
+        edge_stays M accepted (node (suc k)) h.0 h.1 (first_next M (node (suc k))) (first_edge-leads M accepted (node (suc k)) h.0 h.1)
 
     moves : (k : ℕ) → T ((kripke M).edge (node k) (node (suc k)))
     unfolding node
     moves zero = edge
-    moves (suc k) = let h = range (suc k) in first_edge M accepted (node (suc k)) h.0 h.1
+    moves (suc k) = let h = range (suc k) in first_edge-leads M accepted (node (suc k)) h.0 h.1
 
     state : ℕ → ℕ
     state zero = 1

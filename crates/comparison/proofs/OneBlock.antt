@@ -8,7 +8,7 @@ use mathlib.Core.Bool.{true}
 use lib.Dec.{T}
 use Rattle.truth.specs.Passed.{kripke, nodes, signals, each, machine_refusal}
 use Rattle.truth.specs.inner.Rows.{leads_into}
-use Rattle.truth.proofs.Passed.{each_at, first_next, first_edge}
+use Rattle.truth.proofs.Passed.{each_at, first_next, first_edge-leads}
 use Rattle.truth.proofs.structure.TargetRows.{leads-into}
 use Rattle.comparison.specs.Comparison.{Equal}
 use Rattle.comparison.specs.inner.Blocks.{Members, In, HasStart, Covers, AllIn, Unsplit}
@@ -27,7 +27,7 @@ module _ (M : List ℕ) (ok : machine_refusal M ≡ 0) where
   -- every node has a next
   goes_on : (c d : ℕ) → AllIn M whole c (leads_into M (whole d))
   unfolding AllIn In
-  goes_on c d s i = (leads-into M (whole d) s).0 (first_next M s, first_edge M ok s i.0 i.1, tt)
+  goes_on c d s i = (leads-into M (whole d) s).0 (first_next M s, first_edge-leads M ok s i.0 i.1, tt)
 
   signalled : (c i : ℕ) → i ≡ 1 → T (each (nodes M) ((kripke M).signal 1)) → AllIn M whole c ((kripke M).signal i)
   unfolding AllIn In

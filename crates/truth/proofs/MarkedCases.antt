@@ -79,7 +79,7 @@ module _ (M : List ℕ) (accepted : machine_refusal M ≡ 0) where
   follow-in s zero lo hi = (lo, hi)
   follow-in s (suc i) lo hi =
       let h = follow-in s i lo hi in
-      edge_stays M accepted (follow s i) h.0 h.1 (first_next M (follow s i)) (first_edge M accepted (follow s i) h.0 h.1)
+      edge_stays M accepted (follow s i) h.0 h.1 (first_next M (follow s i)) (first_edge-leads M accepted (follow s i) h.0 h.1)
 
   pub case-f-true : (s : ℕ) → 1 ≤ s → s ≤ nodes M → TrueAt lent M (OneState 1) 1 s
   unfolding TrueAt True TrueWithin Means line line_of automaton record_word bit any_of chain Valuation follow
@@ -89,7 +89,7 @@ module _ (M : List ℕ) (accepted : machine_refusal M ≡ 0) where
     valuation = λ i. 0;
     starts = refl;
     begins = refl;
-    moves = λ i. let h = follow-in s i lo hi in first_edge M accepted (follow s i) h.0 h.1;
+    moves = λ i. let h = follow-in s i lo hi in first_edge-leads M accepted (follow s i) h.0 h.1;
     values = λ i. (omega arith, λ i l. absurd (omega arith));
     goes = λ i. tt;
     recurs = λ i. (i, omega arith, tt);
