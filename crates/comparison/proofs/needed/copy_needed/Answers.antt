@@ -22,7 +22,7 @@ loop-i-preserved-then-get-ne0 c =
       c.put.ensures.0,
       wrote.ensures.size,
       λ a ls down holds inside stands closed.
-          let here = c.line_at_lem.ensures ls holds (omega arith) in
+          let here = c.line_at.ensures ls holds (omega arith) in
           let needed_here : 1 ≤ get_or x.needed.now (at.i + 1) 0 = omega arith in
           rw c.put.ensures.1
           (copied-line a ls down x.same.now x.needed.now stands at.i (omega arith) (omega arith) at.number at.out at.count at.invariant.2 (at.invariant.4 a ls down holds inside stands closed)

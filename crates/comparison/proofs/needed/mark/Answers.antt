@@ -26,7 +26,7 @@ loop-i-preserved-then-get-ne0 c =
       search rules,
       ap length c.mark_line.ensures ∙ length-marks _ _ at.needed ∙ at.invariant.1,
       λ a ls down holds inside stands.
-          rw (c.mark_line.ensures, ← c.line_at_lem.ensures ls holds (omega arith))
+          rw (c.mark_line.ensures, ← c.line_at.ensures ls holds (omega arith))
           (closed-line a ls down x.same.now at.needed stands at.invariant.1 x.j inside (omega arith) at.i (omega arith) (omega arith) (at.invariant.2 a ls down holds inside stands) (omega (arith, was, need)) n (omega arith)),
     )
 

@@ -30,7 +30,7 @@ loop-i-preserved c =
       got.2,
       λ a ls down holds inside.
           let here : at.i + 1 ≤ length ls = omega arith in
-          got.3 a ls down here (c.line_at_lem.ensures ls holds here) (rw e (at.invariant.4 a ls down holds inside)),
+          got.3 a ls down here (c.line_at.ensures ls holds here) (rw e (at.invariant.4 a ls down holds inside)),
     )
 
 pub returns : goal.returns

@@ -15,21 +15,21 @@ returns-then-so_far-n c =
     let t = c.turn-so_far in
     let l = t.new in
     settled-end _ _ (state c.loop-so_far.first c.loop-so_far.second c.loop-so_far.line c.loop-so_far.words c.loop-so_far.so_far)
-    (state l.1.1.0 l.1.1.1.0 l.1.1.1.1.0 l.1.1.1.1.1.0 t.result) t.ensures c.loop-so_far.invariant.0 c.if-so_far-n.true
+    (state l.first l.second l.line l.words t.result) t.ensures c.loop-so_far.invariant.0 c.if-so_far-n.true
 
 pub loop-so_far-smaller : goal.loop-so_far-smaller
 loop-so_far-smaller c =
     let t = c.turn-so_far in
     let l = t.new in
     turns-fewer _ _ (state c.loop-so_far.first c.loop-so_far.second c.loop-so_far.line c.loop-so_far.words c.loop-so_far.so_far)
-    (state l.1.1.0 l.1.1.1.0 l.1.1.1.1.0 l.1.1.1.1.1.0 t.result) t.ensures c.if-so_far-n.false
+    (state l.first l.second l.line l.words t.result) t.ensures c.if-so_far-n.false
 
 pub loop-so_far-preserved : goal.loop-so_far-preserved
 loop-so_far-preserved c =
     let t = c.turn-so_far in
     let l = t.new in (
       signalled-on _ _ (state c.loop-so_far.first c.loop-so_far.second c.loop-so_far.line c.loop-so_far.words c.loop-so_far.so_far)
-          (state l.1.1.0 l.1.1.1.0 l.1.1.1.1.0 l.1.1.1.1.1.0 t.result) t.ensures c.loop-so_far.invariant.0,
+          (state l.first l.second l.line l.words t.result) t.ensures c.loop-so_far.invariant.0,
       c.loop-so_far.invariant.1,
       c.loop-so_far.invariant.2,
     )

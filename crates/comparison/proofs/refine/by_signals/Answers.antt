@@ -17,11 +17,10 @@ pub loop-i-smaller : goal.loop-i-smaller
 loop-i-smaller c = omega (arith, c.loop-i-test.true)
 
 pub loop-i-preserved : goal.loop-i-preserved
-loop-i-preserved c =
-    (
-      omega (arith, c.loop-i-test.true),
-      signals-more _ _ _ _ _ c.loop-i.invariant.1 c.by_signal-so_far.ensures,
-    )
+loop-i-preserved c = (
+  omega (arith, c.loop-i-test.true),
+  signals-more _ _ _ _ _ c.loop-i.invariant.1 c.by_signal-so_far.ensures,
+)
 
 pub returns : goal.returns
 returns c =

@@ -39,7 +39,7 @@ pub loop-b-preserved : goal.loop-b-preserved
 loop-b-preserved c M₁ M₂ s =
     let a = c.args in
     let l = c.split_block-so_far.new in
-    let later = state l.0 l.1.0 l.1.1.0 l.1.1.1.0 c.split_block-so_far.result in
+    let later = state l.first l.second l.line l.words c.split_block-so_far.result in
     dividing-more M₁ M₂ (entry (search)) a.p (row_has a.x1) (row_has a.x2) ((state c.loop-b.first c.loop-b.second c.loop-b.line c.loop-b.words c.loop-b.so_far)) c.loop-b.b (c.loop-b.invariant M₁ M₂ s)
     c.loop-b-test.true later c.next_split-b.result c.split_block-so_far.ensures (c.next_split-b.ensures M₁ M₂)
 
