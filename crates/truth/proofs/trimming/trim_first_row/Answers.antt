@@ -41,9 +41,12 @@ returns c =
     let through = Through a.allow.now a.table.now a.p in
     let onward = rw (set.0, set.1) at on.ensures in
     let k = c.take_out.ensures in
-    let lost : (s : ℕ) → row_has d.result s ≡ (rows_has a.xs.now a.p s && not (row_has on.result s)) = λ s. rw (row.0, row.1) at (d.ensures s) in record { by_index = λ back first is g.
+    let lost : (s : ℕ) → row_has d.result s ≡ (rows_has a.xs.now a.p s && not (row_has on.result s)) = λ s. rw (row.0, row.1) at (d.ensures s) in record {
+      by_index = λ back first is g.
           started-next a.table.now (row_has on.result) is
           (λ s. (
             λ t. among_below cell pre.4 a.p (through s) ((onward s).0 t),
             λ r. (onward s).1 (below-among cell pre.4 a.p (through s) pre.0 (λ q x. (s, x.0)) r),
-          )) lost k g; xs_len = (k.size ∙ c.requires.2, k.size-gone ∙ c.requires.3) }
+          )) lost k g;
+      xs_len = (k.size ∙ c.requires.2, k.size-gone ∙ c.requires.3);
+    }

@@ -42,9 +42,15 @@ load-requires c = omega (arith, c.requires.0, c.requires.1)
 pub trim_into-requires : goal.trim_into-requires
 trim_into-requires c =
     let pre = c.requires in
-    let on = c.load.ensures in
-    (pre.0, pre.1, pre.2, ((let h : Cleared c.args.p2 c.args.gone.now c.store.new.rows = let pre = c.requires in
-    emptied c.args.gone.now _ c.args.p2 _ _ (omega (arith, pre.0, pre.1, pre.3)) c.store.ensures c.empty.ensures in h)).size ∙ pre.3, λ u t. pre.4.few _ u (rw (on.0, on.1) at t), pre.5)
+    let on = c.load.ensures in (
+      pre.0,
+      pre.1,
+      pre.2,
+      ((let h : Cleared c.args.p2 c.args.gone.now c.store.new.rows = let pre = c.requires in
+          emptied c.args.gone.now _ c.args.p2 _ _ (omega (arith, pre.0, pre.1, pre.3)) c.store.ensures c.empty.ensures in h)).size ∙ pre.3,
+      λ u t. pre.4.few _ u (rw (on.0, on.1) at t),
+      pre.5,
+    )
 
 pub returns : goal.returns
 returns c =
@@ -56,5 +62,8 @@ returns c =
     let some : each members_most (λ s. not (rows_has a.gone.now a.p2 s)) ≡ false =
     rw (from.0, from.1) at (sym c.is_empty.ensures ∙ c.if-is_empty.false) in
     let m = c.trim_into.ensures in
-    let known = c.requires in record { trimmed = trimmed-row a.back.now a.gone.now a.p2 (row_has pre.result) ((let h : Cleared c.args.p2 c.args.gone.now c.store.new.rows = let pre = c.requires in
-    emptied c.args.gone.now _ c.args.p2 _ _ (omega (arith, pre.0, pre.1, pre.3)) c.store.ensures c.empty.ensures in h)) ahead m.moved a.into.now known.4 (rw (on.0, on.1) at m.owing) known.0 some; none = λ y. absurd (true≢false y) }
+    let known = c.requires in record {
+      trimmed = trimmed-row a.back.now a.gone.now a.p2 (row_has pre.result) ((let h : Cleared c.args.p2 c.args.gone.now c.store.new.rows = let pre = c.requires in
+          emptied c.args.gone.now _ c.args.p2 _ _ (omega (arith, pre.0, pre.1, pre.3)) c.store.ensures c.empty.ensures in h)) ahead m.moved a.into.now known.4 (rw (on.0, on.1) at m.owing) known.0 some;
+      none = λ y. absurd (true≢false y);
+    }
