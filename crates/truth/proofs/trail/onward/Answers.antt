@@ -65,12 +65,12 @@ loop-k-preserved c =
     let there = c.load.ensures in
     let l = c.loop-k in
     elim c.else-v-ne0.branch [
-    else-v-ne0-via-then-v-ne0+else-has w ↦
-    let may = w.load-then-v-ne0.ensures in
-    none-next _ _ _ _ _ _ _ l.invariant (λ v s x. not-allowed _ _ _ _ _ _ _ (rw (may.0, may.1) at (sym w.has.ensures ∙ w.if-has.false)) s)
-    | else-v-ne0-via-else-v-ne0 w ↦
-    none-next _ _ _ _ _ _ _ l.invariant (λ v s x. rw (c.first-v.ensures.none w.if-v-ne0.false v) at
-    (led-to a.allow.now a.next.now a.t a.p a.u a.set.now l.k (row_has c.intersection.result) (λ i. rw (to.0, to.1, there.0, there.1) at (c.intersection.ensures i)) v s x))
+      | else-v-ne0-via-then-v-ne0+else-has w ↦
+          let may = w.load-then-v-ne0.ensures in
+          none-next _ _ _ _ _ _ _ l.invariant (λ v s x. not-allowed _ _ _ _ _ _ _ (rw (may.0, may.1) at (sym w.has.ensures ∙ w.if-has.false)) s)
+      | else-v-ne0-via-else-v-ne0 w ↦
+          none-next _ _ _ _ _ _ _ l.invariant (λ v s x. rw (c.first-v.ensures.none w.if-v-ne0.false v) at
+          (led-to a.allow.now a.next.now a.t a.p a.u a.set.now l.k (row_has c.intersection.result) (λ i. rw (to.0, to.1, there.0, there.1) at (c.intersection.ensures i)) v s x))
     ]
 
 pub returns : goal.returns
