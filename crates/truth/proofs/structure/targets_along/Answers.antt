@@ -1,5 +1,4 @@
 -- `targets_along` meets its contract: the walk that gathers along a chain, at `with_target` and `targets_left`.
-use Rattle.sheets.proofs.GatheredChains.{remaining-less}
 use Rattle.sheets.proofs.ChainWalks.{walk-starts, walk-goes, walk-ends}
 use Rattle.truth.specs.inner.Targets.{TargetsTaken, Stopped}
 use Rattle.truth.proofs.structure.targets_along.Goals as goal
@@ -8,9 +7,6 @@ pub loop-left-init : goal.loop-left-init
 loop-left-init c =
     let w = c.new-w.ensures in
     walk-starts TargetsTaken (λ a b e. e) Stopped c.args.ws.now c.args.base c.args.width c.args.left c.args.first c.args.a c.new-w.result (rw w.0) w.1.0 w.1.1.0 w.1.1.1
-
-pub loop-left-smaller : goal.loop-left-smaller
-loop-left-smaller c = remaining-less Stopped c.with_target-a.result c.loop-left.left c.next-step.result c.targets_left-left.result c.loop-left-test.true c.targets_left-left.ensures
 
 pub loop-left-preserved : goal.loop-left-preserved
 loop-left-preserved c =
