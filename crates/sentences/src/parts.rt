@@ -96,7 +96,7 @@ fn with_signal(p: Parts, i: u16, mark: u8) -> Parts {
 
 fn with_line(p: Parts) -> Parts {
     let mut q = p;
-    q.rest = q.rest.wrapping_add(1);
+    q.rest = std::num::wrapping_add_u16(q.rest, 1);
     q
 }
 
