@@ -3,5 +3,5 @@
 
 mod page; // page.rt: lines of text in a lent space
 mod parts; // parts.rt: what holds together where a line holds
-pub mod printing; // printing.rt: a rule in words, on standard output
+pub mod printing; // printing.rt: a rule in words, to a writer
 mod sentence; // sentence.rt: the rule as one sentence

@@ -10,7 +10,7 @@ pub const WIDTH: u16 = 100;
 pub const HEIGHT: u16 = 40;
 
 // Where the next byte goes, how long the line is so far, how many lines are ended; `over` where a byte found no room.
-#[derive(Drop)]
+#[derive(Clone, Copy)]
 pub struct Cursor {
     pub at: usize,
     pub column: u16,

@@ -101,7 +101,7 @@ fn signals(page: &mut [u8; page::SIZE], c: Cursor, set: u16, on: bool) -> Cursor
 
 // Where a part is put: how many parts may be opened one in the other from there on, how far its line is set in, how many parts are still
 // to be put, this one and those after it, whether parts go on in the same line, and whether this one follows another.
-#[derive(Drop)]
+#[derive(Clone, Copy)]
 struct Place {
     deep: u16,
     level: u16,
