@@ -4,7 +4,7 @@ use Prim.Native.Nat.{ℕ, ◌+◌, ◌-◌, ◌*◌, ◌≤◌, ◌<◌}
 use native.Mathlib.Omega.{arith}
 use mathlib.Core.List.{List, [], ◌∷◌, ◌++◌}
 use lib.ListN.{length, get_or, drop, length-append}
-use Rattle.truth.specs.Passed.{none, first_no, nodes, signals, nodes_most, line_words, next_head}
+use Rattle.truth.specs.Passed.{first_no, nodes, signals, nodes_most, line_words, next_head}
 use Rattle.truth.specs.inner.Rows.{rows_has}
 use Rattle.truth.proofs.Passed.{nodes-sized}
 use Rattle.comparison.specs.inner.Sizes.{written_space, written_most}

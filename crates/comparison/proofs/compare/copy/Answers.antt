@@ -1,6 +1,5 @@
 -- `copy` meets its contract. The invariant: i words are pasted in, and the space is as long as it was. The measure is the words left.
 use mathlib.Core.Path.{◌≡◌, refl}
-use Prim.Native.Nat.{◌-◌}
 use native.Mathlib.Omega.{arith}
 use lib.ListN.{length-set}
 use lib.Seq.{paste-zero}

@@ -1,5 +1,5 @@
 -- `last_refusal` meets its contract: the first of the three questions that says no.
-use mathlib.Core.Path.{◌≡◌, sym, ◌∙◌}
+use mathlib.Core.Path.{sym, ◌∙◌}
 use native.Mathlib.Omega.{arith}
 use Rattle.comparison.proofs.CompareTable.{by-signals, by-nodes, by-space, by-none}
 use Rattle.comparison.proofs.compare.last_refusal.Goals as goal

@@ -1,6 +1,5 @@
 -- `one_sided` meets its contract. The invariant: the blocks below c have a start node of both machines or of neither. The measure is the
 -- blocks left.
-use Prim.Native.Nat.{◌-◌}
 use native.Mathlib.Omega.{arith}
 use Rattle.truth.specs.inner.Rows.{row_has, rows_has}
 use Rattle.comparison.proofs.StartBlocks.{side-found, side-agrees, side-none}

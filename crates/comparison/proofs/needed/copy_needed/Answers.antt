@@ -1,6 +1,6 @@
 -- `copy_needed` meets its contract. The invariant: the needed lines of 1 to i are copied. The measure is the lines left.
 use mathlib.Core.Path.{◌≡◌, refl, sym, ◌∙◌}
-use Prim.Native.Nat.{◌+◌, ◌-◌, ◌≤◌}
+use Prim.Native.Nat.{◌+◌, ◌≤◌}
 use native.Mathlib.Omega.{arith}
 use lib.ListN.{get_or}
 use Rattle.comparison.proofs.NeededLines.{copied_none, copied-skipped, copied-line}

@@ -1,6 +1,6 @@
 -- `mark` meets its contract. The invariant: of the needed lines below line i, what they refer to is marked. The measure is i.
 use mathlib.Core.Path.{◌≡◌}
-use Prim.Native.Nat.{ℕ, ◌-◌, ◌≤◌}
+use Prim.Native.Nat.{ℕ, ◌≤◌}
 use mathlib.Core.List.{List}
 use lib.ListN.{length}
 use Rattle.comparison.specs.inner.Sizes.{line_places}

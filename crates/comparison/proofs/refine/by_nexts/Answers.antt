@@ -1,5 +1,4 @@
 -- `by_nexts` meets its contract. The invariant: no signal splits a block. The measure is the blocks that may still come.
-use Prim.Native.Nat.{◌-◌}
 use Rattle.comparison.specs.inner.Tables.{state}
 use Rattle.comparison.proofs.SettlingBlocks.{signalled-on, settled-end, turns-fewer}
 use Rattle.comparison.proofs.refine.by_nexts.Goals as goal

@@ -1,6 +1,5 @@
 -- `by_signals` meets its contract. The invariant: the signals 1 to i split no block. The measure is the signals left.
 use mathlib.Core.Path.{◌≡◌}
-use Prim.Native.Nat.{◌-◌}
 use native.Mathlib.Omega.{arith}
 use Rattle.truth.specs.Passed.{signals}
 use Rattle.comparison.proofs.SettlingBlocks.{signals-none, signals-more, signals-all}

@@ -1,6 +1,6 @@
 -- `divide` meets its contract. The invariant: the sets split no block before b and no added one, and they split block b if it is below n.
 -- The measure is the blocks from b on.
-use Prim.Native.Nat.{◌-◌, ◌≤◌}
+use Prim.Native.Nat.{◌≤◌}
 use native.Mathlib.Omega.{arith}
 use mathlib.Core.List.{[]}
 use Rattle.truth.specs.Passed.{nodes_most}

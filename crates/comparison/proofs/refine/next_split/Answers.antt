@@ -1,5 +1,4 @@
 -- `next_split` meets its contract. The invariant: the sets split no block from b to c - 1. The measure is the blocks left.
-use Prim.Native.Nat.{◌-◌}
 use native.Mathlib.Omega.{arith}
 use Rattle.truth.specs.inner.Rows.{row_has, rows_has}
 use Rattle.comparison.specs.inner.Blocks.{Unsplit}

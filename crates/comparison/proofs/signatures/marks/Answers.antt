@@ -1,7 +1,6 @@
 -- `marks` meets its contract. The invariant: the nodes of the rows before c have their marks. The measure is the rows left.
 use borrow.Author.Rules.{rules}
 use mathlib.Core.Path.{◌≡◌, refl}
-use Prim.Native.Nat.{◌-◌}
 use native.Mathlib.Omega.{arith}
 use Rattle.truth.specs.inner.Rows.{row_has, rows_has}
 use Rattle.truth.proofs.tables.TableLaws.{loaded}

@@ -1,5 +1,4 @@
 -- `write_signals` meets its contract. The invariant: the lines of the signals 1 to i stand. The measure is the signals left.
-use Prim.Native.Nat.{◌-◌}
 use native.Mathlib.Omega.{arith}
 use mathlib.Core.Path.{◌≡◌}
 use Rattle.comparison.specs.inner.Lines.{signal_lines}

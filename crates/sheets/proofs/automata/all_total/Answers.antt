@@ -1,11 +1,8 @@
 -- `all_total` meets its contract. The invariant: the states at the positions passed are total. The measure is what is left of n.
 use mathlib.Core.Path.{sym, ◌∙◌}
-use Prim.Native.Nat.{◌-◌}
 use native.Mathlib.Omega.{arith}
-use mathlib.Core.Bool.{true}
 use borrow.Author.Count.{below_more}
 use borrow.Author.Tests.{not-true, not-false}
-use Rattle.sheets.specs.Rules.{total}
 use Rattle.sheets.proofs.Positions.{all-taken, taken-fails}
 use borrow.Author.Rules.{rules}
 use Rattle.sheets.proofs.automata.all_total.Invariants.{test}

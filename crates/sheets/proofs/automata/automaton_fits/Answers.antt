@@ -1,8 +1,6 @@
 -- `automaton_fits` meets its contract. The invariant: out of the states at the positions passed the transitions fit. The measure is what is left of n.
 use mathlib.Core.Path.{sym, ◌∙◌}
-use Prim.Native.Nat.{◌-◌}
 use native.Mathlib.Omega.{arith}
-use mathlib.Core.Bool.{true}
 use borrow.Author.Count.{below_more}
 use borrow.Author.Tests.{not-true, not-false}
 use Rattle.sheets.specs.Rules.{states_of}

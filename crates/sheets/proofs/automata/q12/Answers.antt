@@ -1,5 +1,4 @@
 -- `q12` meets its contract. The invariant: each automaton passed fits. The measure is the number of those left.
-use Prim.Native.Nat.{◌-◌}
 use Rattle.sheets.specs.Rules.{q12}
 use Rattle.sheets.proofs.EachLoops.{each-starts, test-goes, test-stops, each-ends}
 use Rattle.sheets.proofs.automata.q12.Goals as goal

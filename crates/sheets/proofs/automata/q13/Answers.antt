@@ -1,5 +1,4 @@
 -- `q13` meets its contract. The invariant: each automaton passed is total. The measure is the number of those left.
-use Prim.Native.Nat.{◌-◌}
 use native.Mathlib.Omega.{arith}
 use Rattle.sheets.specs.Rules.{q13}
 use Rattle.sheets.proofs.AutomatonLoops.{few-variables}

@@ -1,6 +1,5 @@
 -- `total` meets its contract. The invariant: under each valuation passed exactly one transition is taken. The measure is the number of those left.
 use mathlib.Core.Path.{◌∙◌}
-use Prim.Native.Nat.{◌-◌}
 use native.Mathlib.Omega.{arith}
 use Rattle.sheets.specs.Format.{word_bits}
 use Rattle.sheets.specs.Rules.{total, transitions_of}

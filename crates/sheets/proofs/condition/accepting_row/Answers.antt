@@ -1,6 +1,5 @@
 -- `accepting_row` meets its contract. The invariant: the set so far has the positions below i of accepting states. The measure is what is left of n.
 use mathlib.Core.Path.{◌≡◌, sym, ◌∙◌}
-use Prim.Native.Nat.{◌-◌}
 use native.Mathlib.Omega.{arith}
 use borrow.Author.Tests.{eq-eqb, ne_eqb}
 use Rattle.sheets.proofs.BitLaws.{bit-none}

@@ -1,7 +1,6 @@
 -- `leads_rows` meets its contract. The invariant: the rows below j have the positions to which a transition leads from there.
 -- The measure is what is left of n.
 use mathlib.Core.Path.{◌≡◌}
-use Prim.Native.Nat.{◌-◌}
 use native.Mathlib.Omega.{arith}
 use lib.ListN.{get_or, length-set}
 use Rattle.sheets.proofs.Positions.{stored}

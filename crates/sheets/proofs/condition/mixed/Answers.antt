@@ -1,8 +1,6 @@
 -- `mixed` meets its contract. The invariant: no position mixes with one below p. The measure is what is left of n.
 use mathlib.Core.Path.{◌≡◌, sym, ◌∙◌}
-use Prim.Native.Nat.{◌-◌}
 use native.Mathlib.Omega.{arith}
-use mathlib.Core.Bool.{false}
 use Rattle.sheets.proofs.Positions.{some-none, some_next, some-met}
 use Rattle.sheets.proofs.condition.mixed.Invariants.{test}
 use Rattle.sheets.proofs.condition.mixed.Goals as goal

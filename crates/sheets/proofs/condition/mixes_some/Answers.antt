@@ -1,8 +1,6 @@
 -- `mixes_some` meets its contract. The invariant: no position below q mixes with p. The measure is what is left of n.
 use mathlib.Core.Path.{◌≡◌, sym, ◌∙◌}
-use Prim.Native.Nat.{◌-◌}
 use native.Mathlib.Omega.{arith}
-use mathlib.Core.Bool.{false}
 use Rattle.sheets.specs.inner.Positions.{mixing}
 use Rattle.sheets.proofs.Positions.{some-none, some_next, some-met}
 use Rattle.sheets.proofs.condition.mixes_some.Goals as goal

@@ -1,5 +1,5 @@
 -- `q14` meets its contract. The invariant: automata 1 to x are unmixed. The measure is what is left of their number.
-use Prim.Native.Nat.{◌+◌, ◌-◌}
+use Prim.Native.Nat.{◌+◌}
 use native.Mathlib.Omega.{arith}
 use Rattle.sheets.specs.Rules.{q14}
 use Rattle.sheets.proofs.ReachedPositions.{few-states}

@@ -1,6 +1,5 @@
 -- `reached_rows` meets its contract. The invariant: the rows below p have what is reached from there. The measure is what is left of n.
 use mathlib.Core.Path.{◌≡◌}
-use Prim.Native.Nat.{◌-◌}
 use native.Mathlib.Omega.{arith}
 use lib.ListN.{length-set}
 use Rattle.sheets.proofs.Positions.{stored}

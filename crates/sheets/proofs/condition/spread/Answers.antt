@@ -1,6 +1,5 @@
 -- `spread` meets its contract. The invariant: the set so far is `set` with the rows of its members below j. The measure is what is left of n.
 use mathlib.Core.Path.{◌≡◌, sym, ◌∙◌}
-use Prim.Native.Nat.{◌-◌}
 use native.Mathlib.Omega.{arith}
 use Rattle.sheets.specs.Words.{bit}
 use Rattle.sheets.specs.inner.Positions.{in_row}

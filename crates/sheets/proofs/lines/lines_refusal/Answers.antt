@@ -1,6 +1,5 @@
 -- `lines_refusal` meets its contract. The invariant: the lines passed pass question 15. The measure is how many are left.
 use mathlib.Core.Path.{refl, sym, ◌∙◌}
-use Prim.Native.Nat.{◌-◌}
 use mathlib.Core.List.{[]}
 use Rattle.sheets.specs.Rules.{q15}
 use Rattle.sheets.proofs.Questions.{asked-none, asked-yes, asked-no}

@@ -1,5 +1,4 @@
 -- `over_signals` meets its contract. The invariant: the lines passed have signal numbers of at most a. The measure is how many are left.
-use Prim.Native.Nat.{◌-◌}
 use native.Mathlib.Omega.{arith}
 use Rattle.sheets.specs.Rules.{lines, q15, over_signals}
 use Rattle.sheets.proofs.Search.{each_at}

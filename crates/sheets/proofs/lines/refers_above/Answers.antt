@@ -1,6 +1,5 @@
 -- `refers_above` meets its contract. The invariant: the words passed refer to lines above. The measure is how many are left.
 use mathlib.Core.Path.{refl}
-use Prim.Native.Nat.{◌-◌}
 use Rattle.sheets.specs.Rules.{refers_above}
 use Rattle.sheets.proofs.Bounds.{within-below}
 use Rattle.sheets.proofs.EachLoops.{each-starts, unless-goes, unless-stops, each-ends}

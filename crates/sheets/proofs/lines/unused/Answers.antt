@@ -1,9 +1,8 @@
 -- `unused` meets its contract. The invariant: the words passed are zero. The measure is how many are left.
 use mathlib.Core.Path.{refl, sym, ◌∙◌}
-use Prim.Native.Nat.{◌-◌}
 use borrow.Author.Tests.{le-leb, lt-leb, eq-eqb, ne_eqb}
 use Rattle.sheets.specs.Format.{line_words}
-use Rattle.sheets.specs.Rules.{line_word, unused}
+use Rattle.sheets.specs.Rules.{unused}
 use Rattle.sheets.proofs.EachLoops.{each-starts, each_goes, each-stops, each-ends}
 use Rattle.sheets.proofs.lines.unused.Goals as goal
 

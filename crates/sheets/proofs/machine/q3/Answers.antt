@@ -1,6 +1,5 @@
 -- `q3` meets its contract. The invariant: the nodes passed have only the machine's signals, and a flag of 0 or 1. The measure is how
 -- many are left.
-use Prim.Native.Nat.{◌-◌}
 use Rattle.sheets.specs.MachineForms.{q3}
 use Rattle.sheets.proofs.EachLoops.{each-starts, test-goes, test-stops, each-ends}
 use Rattle.sheets.proofs.machine.q3.Goals as goal

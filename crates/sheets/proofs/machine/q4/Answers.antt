@@ -1,5 +1,4 @@
 -- `q4` meets its contract. The invariant: the first edges of the nodes passed are in range. The measure is how many are left.
-use Prim.Native.Nat.{◌-◌}
 use Rattle.sheets.specs.MachineForms.{q4}
 use Rattle.sheets.proofs.EachLoops.{each-starts, unless-goes, unless-stops, each-ends}
 use Rattle.sheets.proofs.machine.q4.Goals as goal

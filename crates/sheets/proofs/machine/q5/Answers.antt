@@ -1,5 +1,4 @@
 -- `q5` meets its contract. The invariant: the edges passed lead to nodes, and their links rise. The measure is how many are left.
-use Prim.Native.Nat.{◌-◌}
 use Rattle.sheets.specs.MachineForms.{q5}
 use Rattle.sheets.proofs.EachLoops.{each-starts, test-goes, test-stops, each-ends}
 use Rattle.sheets.proofs.machine.q5.Goals as goal

@@ -1,6 +1,5 @@
 -- `q6` meets its contract. The invariant: the nodes passed are no start nodes. The measure is how many are left.
 use mathlib.Core.Path.{sym, ◌∙◌}
-use Prim.Native.Nat.{◌-◌}
 use borrow.Author.Tests.{eq-eqb, ne_eqb}
 use Rattle.sheets.specs.MachineForms.{q6}
 use Rattle.sheets.proofs.EachLoops.{each-starts, each_goes, each-finds, each-misses}

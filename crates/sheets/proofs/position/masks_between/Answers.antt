@@ -1,7 +1,6 @@
 -- `masks_between` meets its contract. The invariant: the masks out of the positions below p are there. The measure is what is left of n.
 use borrow.Author.Rules.{rules}
 use mathlib.Core.Path.{◌≡◌}
-use Prim.Native.Nat.{◌-◌}
 use native.Mathlib.Omega.{arith}
 use Rattle.sheets.proofs.PositionedTables.{from_more}
 use Rattle.sheets.proofs.position.masks_between.Goals as goal

@@ -1,7 +1,7 @@
 -- `put_masks` meets its contract. The invariant: the masks towards the positions below k are written, and those of earlier positions are as
 -- they were. The measure is what is left of n.
 use mathlib.Core.Path.{◌≡◌, refl, ◌∙◌}
-use Prim.Native.Nat.{◌+◌, ◌-◌, ◌*◌}
+use Prim.Native.Nat.{◌+◌, ◌*◌}
 use native.Mathlib.Omega.{arith}
 use lib.ListN.{length-set}
 use lib.Seq.{get_or-set_other}

@@ -1,5 +1,4 @@
 -- `q11` meets its contract. The invariant: the transitions passed are in range. The measure is how many are left.
-use Prim.Native.Nat.{◌-◌}
 use Rattle.sheets.specs.Rules.{q11}
 use Rattle.sheets.proofs.EachLoops.{each-starts, test-goes, test-stops, each-ends}
 use Rattle.sheets.proofs.rules.q11.Goals as goal

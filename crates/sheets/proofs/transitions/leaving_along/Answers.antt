@@ -1,10 +1,6 @@
 -- `leaving_along` meets its contract: the walk that gathers along a chain, at `with_leaving`.
-use mathlib.Core.Path.{ap}
-use mathlib.Core.List.{List}
-use Prim.Native.Nat.{ℕ}
 use Rattle.sheets.specs.inner.Gathered.{Never}
 use Rattle.sheets.specs.inner.Transitions.{LeavingTaken}
-use Rattle.sheets.specs.declared.walker.Walker.{Walker}
 use Rattle.sheets.proofs.GatheredChains.{remaining-less, whole-way}
 use Rattle.sheets.proofs.ChainWalks.{walk-starts, walk-goes, walk-ends}
 use Rattle.sheets.proofs.transitions.leaving_along.Goals as goal

@@ -1,7 +1,6 @@
 -- `with_mask` meets its contract. The invariant: the positions below k have their mask, and from k on the masks are as they were. The
 -- measure is what is left of n.
 use mathlib.Core.Path.{◌≡◌, refl, sym, ◌∙◌}
-use Prim.Native.Nat.{◌-◌}
 use native.Mathlib.Omega.{arith}
 use borrow.Author.Count.{below_more}
 use lib.ListN.{length-set}

@@ -2,7 +2,6 @@
 use mathlib.Core.Path.{◌≡◌, sym, ◌∙◌}
 use borrow.Author.Tests.{not-true, not-false}
 use native.Mathlib.Omega.{arith}
-use Prim.Native.Nat.{◌-◌}
 use Rattle.sheets.specs.Machine.{nodes}
 use Rattle.truth.specs.inner.Rows.{row_has}
 use Rattle.truth.proofs.breaks.BreakNodes.{passed_none, passed-in, passed-other, outside-found, outside-none}

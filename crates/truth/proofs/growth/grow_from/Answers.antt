@@ -1,7 +1,7 @@
 -- `grow_from` meets its contract. The invariant: the pairs of the positions that are no longer left are added. The measure is how many are left.
 use mathlib.Core.Path.{◌∙◌}
 use mathlib.Core.Logic.{◌↔◌}
-use Prim.Native.Nat.{ℕ, ◌-◌, ◌≤◌}
+use Prim.Native.Nat.{ℕ, ◌≤◌}
 use native.Mathlib.Omega.{arith}
 use lib.Dec.{T}
 use Rattle.sheets.proofs.Tests.{and_left}

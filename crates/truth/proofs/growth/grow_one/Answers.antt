@@ -1,11 +1,10 @@
 -- `grow_one` meets its contract: the row's nodes that are not met are added, or there are none.
-use mathlib.Core.Path.{◌≡◌, sym, ◌∙◌}
-use Prim.Native.Nat.{ℕ, ◌+◌, ◌*◌, ◌<◌}
+use mathlib.Core.Path.{sym, ◌∙◌}
+use Prim.Native.Nat.{◌+◌, ◌*◌, ◌<◌}
 use native.Mathlib.Omega.{arith}
-use mathlib.Core.Bool.{not, ◌&&◌}
 use lib.ListN.{length}
 use Rattle.truth.specs.Sizes.{row_words}
-use Rattle.truth.specs.inner.Rows.{row_has, rows_has}
+use Rattle.truth.specs.inner.Rows.{row_has}
 use Rattle.truth.specs.inner.Growing.{enters}
 use Rattle.truth.proofs.tables.TableLaws.{stored-length, stored_more}
 use Rattle.truth.proofs.growth.RowAdditions.{spread-one, spread-empty, no-time-put}

@@ -1,7 +1,6 @@
 -- `grow_round` meets its contract. The invariant: turns led here, and where there was none the positions passed have nothing new. The measure is how many positions are left.
 use borrow.Author.Count.{below_more}
 use mathlib.Core.Path.{◌≡◌, sym, ◌∙◌}
-use Prim.Native.Nat.{◌-◌}
 use mathlib.Core.Bool.{not}
 use Rattle.sheets.specs.Words.{each}
 use native.Mathlib.Omega.{arith}

@@ -1,7 +1,6 @@
 -- `label_lines` meets its contract. The invariant: the rows of the lines up to j are written, and each has the truths of its line.
 -- The measure is the lines left.
 use mathlib.Core.Path.{◌≡◌, refl}
-use Prim.Native.Nat.{◌-◌}
 use native.Mathlib.Omega.{arith}
 use Rattle.sheets.proofs.AcceptedMachine.{nodes-sized}
 use Rattle.truth.proofs.lines.ReadyTables.{ready}

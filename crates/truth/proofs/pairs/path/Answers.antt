@@ -1,7 +1,4 @@
 -- `path` meets its contract: what was made is written over the first pairs of the list, and shows the same path there.
-use mathlib.Core.Path.{◌≡◌}
-use lib.ListN.{length}
-use Rattle.truth.specs.Sizes.{pairs_most}
 use Rattle.truth.proofs.pairs.PairAnswers.{count_fits, pairs-answered}
 use borrow.Author.Rules.{rules}
 use Rattle.truth.proofs.pairs.path.Goals as goal

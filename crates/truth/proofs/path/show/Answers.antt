@@ -2,16 +2,11 @@
 -- trail, its positions named, is the list.
 -- ---- places before the row is looked at
 use borrow.Author.Rules.{rules}
-use mathlib.Core.Path.{◌≡◌, subst}
-use Prim.Native.Nat.{ℕ}
-use mathlib.Core.List.{List}
+use mathlib.Core.Path.{◌≡◌}
 use native.Mathlib.Omega.{arith}
 use lib.ListN.{length}
-use Rattle.sheets.specs.Positioned.{state_count, state_of, positioned}
 use Rattle.truth.specs.Sizes.{pairs_most}
 use Rattle.truth.specs.inner.Pairs.{Timed}
-use Rattle.truth.specs.inner.Product.{line_at, argument_of}
-use Rattle.truth.specs.inner.OneLine.{SolvedLine}
 use Rattle.truth.proofs.lines.PathRows.{states-few, solvable}
 use Rattle.truth.proofs.path.ShownLines.{none-shown, traceable, list-fits, shows-line}
 use Rattle.truth.proofs.path.show.Goals as goal

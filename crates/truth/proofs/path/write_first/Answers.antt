@@ -1,7 +1,6 @@
 -- `write_first` meets its contract. The loop's invariant: the first i numbers are written over those of the list, and the rest is as it was.
 -- The measure is what is left of the count.
 use mathlib.Core.Path.{◌≡◌, refl, ap, ◌∙◌}
-use Prim.Native.Nat.{◌-◌}
 use native.Mathlib.Omega.{arith}
 use lib.ListN.{length}
 use Rattle.truth.proofs.path.WrittenLists.{written-length, written_next}

@@ -1,7 +1,7 @@
 -- `allow_table` meets its contract. The invariant: the rows below i are made, every row has nodes of the valuations' rows alone, and the sets
 -- know what they must. The measure is the number of rows left.
 use mathlib.Core.Path.{◌≡◌}
-use Prim.Native.Nat.{◌-◌, ◌*◌}
+use Prim.Native.Nat.{◌*◌}
 use native.Mathlib.Omega.{arith}
 use Rattle.truth.specs.Sizes.{positions_most}
 use Rattle.truth.specs.inner.Rows.{row_has}

@@ -1,10 +1,8 @@
 -- `good_table` meets its contract. The invariant: the rows below p are those of their positions. The measure is what is left of t.
 use borrow.Author.Rules.{rules}
 use mathlib.Core.Path.{◌≡◌, ap, ◌∙◌}
-use Prim.Native.Nat.{◌-◌}
 use native.Mathlib.Omega.{arith}
 use mathlib.Core.Bool.{Bool, ◌&&◌}
-use Rattle.sheets.specs.Words.{bit}
 use Rattle.truth.specs.inner.Rows.{row_has}
 use Rattle.truth.specs.inner.Product.{turned}
 use Rattle.truth.proofs.tables.TableLaws.{filled_none, filled_more}

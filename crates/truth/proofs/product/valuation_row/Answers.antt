@@ -1,7 +1,6 @@
 -- `valuation_row` meets its contract. The invariant: the row has the nodes at which the first i lines agree with w. The measure is what is left of v.
 -- `t3` is the list of lines.
 use mathlib.Core.Path.{◌≡◌, refl, sym, ◌∙◌}
-use Prim.Native.Nat.{◌-◌}
 use native.Mathlib.Omega.{arith}
 use Rattle.truth.specs.inner.Rows.{row_has}
 use Rattle.truth.specs.inner.Product.{line_at, argument_at}

@@ -1,7 +1,7 @@
 -- `valuation_table` meets its contract. The invariant: the rows below w have the nodes of their valuations. The measure is the number of those left.
 use borrow.Author.Rules.{rules}
 use mathlib.Core.Path.{◌≡◌}
-use Prim.Native.Nat.{◌-◌, ◌^◌, ◌<◌}
+use Prim.Native.Nat.{◌^◌, ◌<◌}
 use native.Mathlib.Omega.{arith}
 use Rattle.truth.specs.Sizes.{high_at, set_words}
 use Rattle.truth.proofs.product.ValuationRows.{valuations}

@@ -2,7 +2,6 @@
 use mathlib.Core.Path.{◌≡◌, refl, sym, ◌∙◌}
 use mathlib.Core.Bool.{true, and-true}
 use native.Mathlib.Omega.{arith}
-use Prim.Native.Nat.{◌-◌}
 use Rattle.sheets.specs.Words.{within}
 use Rattle.truth.specs.Sizes.{members_most}
 use Rattle.truth.proofs.structure.NodeLoops.{sofar-none, sofar-yes}

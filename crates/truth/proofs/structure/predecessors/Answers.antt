@@ -1,6 +1,6 @@
 -- `predecessors` meets its contract. The invariant: the nodes 1 to s are in the rows of their successors. The measure is the nodes left.
 use mathlib.Core.Path.{◌≡◌, refl, ◌∙◌}
-use Prim.Native.Nat.{ℕ, ◌-◌}
+use Prim.Native.Nat.{ℕ}
 use native.Mathlib.Omega.{arith}
 use Rattle.truth.specs.inner.Rows.{row_has, rows_has}
 use Rattle.truth.proofs.structure.EdgesAdded.{earlier-none, earlier-next}

@@ -1,7 +1,6 @@
 -- `signal_row` meets its contract. The invariant: the row has the nodes up to s that set the signal. The measure is the nodes left.
 use mathlib.Core.Path.{◌≡◌, sym, ◌∙◌}
 use native.Mathlib.Omega.{arith}
-use Prim.Native.Nat.{◌-◌}
 use Rattle.sheets.specs.Machine.{nodes, signal_at}
 use Rattle.truth.proofs.structure.NodeLoops.{sofar-none, sofar-no, sofar-yes}
 use Rattle.truth.proofs.structure.signal_row.Goals as goal

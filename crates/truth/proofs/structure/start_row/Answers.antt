@@ -2,7 +2,6 @@
 use mathlib.Core.Path.{◌≡◌, sym, ◌∙◌}
 use borrow.Author.Tests.{eq-eqb, ne_eqb}
 use native.Mathlib.Omega.{arith}
-use Prim.Native.Nat.{◌-◌}
 use lib.Dec.{eqb}
 use Rattle.sheets.specs.Machine.{nodes, start_flag}
 use Rattle.truth.proofs.structure.NodeLoops.{sofar-none, sofar-no, sofar-yes}

@@ -1,10 +1,7 @@
 -- `onward` meets its contract. The invariant: no step leads into the set at a position below k. The measure is what is left of t.
-use mathlib.Core.Path.{◌≡◌, sym, ◌∙◌}
-use Prim.Native.Nat.{ℕ, ◌-◌}
+use mathlib.Core.Path.{sym, ◌∙◌}
 use native.Mathlib.Omega.{arith}
-use mathlib.Core.Bool.{◌&&◌}
-use Rattle.truth.specs.inner.Rows.{row_has, rows_has}
-use Rattle.truth.specs.inner.Pairs.{edge_in}
+use Rattle.truth.specs.inner.Rows.{row_has}
 use Rattle.truth.proofs.trail.StepSearch.{none_first, none-next, not-allowed, leads-to, led-to}
 use Rattle.truth.proofs.trail.onward.Goals as goal
 use Rattle.truth.proofs.trail.onward.Goals.{else-v-ne0-via-then-v-ne0+else-has, else-v-ne0-via-else-v-ne0}

@@ -1,6 +1,5 @@
 -- `sooner` meets its contract. The invariant: no step leads to an earlier pair of the set at a position below k. The measure is what is left of t.
 use mathlib.Core.Path.{sym, ◌∙◌}
-use Prim.Native.Nat.{◌-◌}
 use native.Mathlib.Omega.{arith}
 use mathlib.Core.Bool.{◌&&◌}
 use lib.Dec.{T, ltb, ltb→lt, lt→ltb}

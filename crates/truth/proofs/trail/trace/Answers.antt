@@ -1,5 +1,5 @@
 -- `trace` meets its contract. The invariant: the pairs so far are listed, and (p, u) is the last of them. The measure is how many more could be listed.
-use Prim.Native.Nat.{ℕ, ◌-◌, ◌*◌, ◌≤◌, ◌<◌}
+use Prim.Native.Nat.{ℕ, ◌*◌, ◌≤◌, ◌<◌}
 use native.Mathlib.Omega.{arith}
 use lib.ListN.{replicate, length-replicate}
 use Rattle.truth.specs.Sizes.{positions_most, members_most, pairs_most}

@@ -1,5 +1,5 @@
 -- `goes_on` meets its contract. The invariant: the nodes of the positions that are no longer left are in the row. The measure is how many are left.
-use Prim.Native.Nat.{◌-◌, ◌≤◌}
+use Prim.Native.Nat.{◌≤◌}
 use native.Mathlib.Omega.{arith}
 use Rattle.truth.specs.Sizes.{positions_most}
 use Rattle.truth.specs.inner.Rows.{row_has}

@@ -1,7 +1,6 @@
 -- `trim_first` meets its contract. The invariant: the rows below p have lost what has nothing ahead. The measure is what is left of the positions.
 use borrow.Author.Rules.{rules}
 use mathlib.Core.Path.{◌≡◌, ◌∙◌}
-use Prim.Native.Nat.{◌-◌}
 use native.Mathlib.Omega.{arith}
 use Rattle.truth.proofs.trimming.TrimStart.{started_none}
 use Rattle.truth.proofs.trimming.trim_first.Goals as goal

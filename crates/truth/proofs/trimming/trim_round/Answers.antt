@@ -1,6 +1,5 @@
 -- `trim_round` meets its contract. The invariant: where nothing was done, the rows of what is gone below k are empty. The measure is what is left of the positions.
 use borrow.Author.Rules.{rules}
-use Prim.Native.Nat.{◌-◌}
 use native.Mathlib.Omega.{arith}
 use Rattle.truth.proofs.trimming.TrimRounds.{round-none, round-yes, round-no}
 use Rattle.truth.proofs.trimming.trim_round.Goals as goal
