@@ -3,13 +3,13 @@
 
 mod answer; // answer.rt: what is answered to the input, and the line that says it
 
-use input::limits;
-use libc::STDIN_FILENO;
+use input::{full, limits};
+use std::io;
 use text::say;
 
 // Reads one byte more than is taken, so that a longer input is noticed.
-fn main() {
+fn main(rt: HostRuntime) -> io::Result<()> {
     let mut input = [0u8; limits::MACHINES_BYTES + 1];
-    let n = io::read_full(STDIN_FILENO, &mut input);
-    say::line(answer::line_for(&input[..n]));
+    let n = full::read_full(&mut rt.stdin(), &mut input)?;
+    say::line(&mut rt.stdout(), answer::line_for(&input[..n]))
 }

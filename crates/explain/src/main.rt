@@ -6,16 +6,16 @@ mod verdict; // verdict.rt: which machine keeps a rule, and where the other brea
 mod answer; // answer.rt: what is said of the input, and the rule left in the space
 mod printing; // printing.rt: the answer in words
 
-use input::limits;
-use libc::STDIN_FILENO;
+use input::{full, limits};
+use std::io;
 
 // Reads one byte more than is taken, so that a longer input is noticed.
-fn main() {
+fn main(rt: HostRuntime) -> io::Result<()> {
     let mut input = [0u8; limits::MACHINES_BYTES + 1];
-    let n = io::read_full(STDIN_FILENO, &mut input);
+    let n = full::read_full(&mut rt.stdin(), &mut input)?;
     let mut rule = [0u16; limits::RULE_WORDS];
     let said = answer::answer_to(&input[..n], &mut rule);
     let answer = said.answer;
     let verdict = said.verdict;
-    printing::print(answer, verdict, &rule);
+    printing::print(&mut rt.stdout(), answer, verdict, &rule)
 }

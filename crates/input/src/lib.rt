@@ -1,6 +1,7 @@
 // The programs' input and output: bytes to words, words to two sheets, a refusal to its line, and a sheet's text to its bytes and back.
 #![tactic(auto)]
 
+pub mod args; // args.rt: the program's arguments
 pub mod bytes; // bytes.rt: how many bytes are taken, and their words
 pub mod cut; // cut.rt: the two sheets of the input, and where the first ends
 pub mod full; // full.rt: a reader's bytes, until it ends or the lent space is full

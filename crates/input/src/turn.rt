@@ -9,7 +9,7 @@ use text::{read, write};
 
 // What came of it: so many bytes are written, or nothing is: the text's first fault, an odd number of bytes, more bytes than are taken,
 // or too little space.
-#[derive(Drop)]
+#[derive(Clone, Copy)]
 pub enum Turned {
     Done { count: usize },
     Fault { kind: Kind, at: Place },

@@ -8,36 +8,37 @@ mod print; // print.rt: what is printed
 ghost use Rattle.label.specs.inner.AnsweredRows.{AnsweredRows};
 
 use answer::Answer;
-use input::limits;
-use libc::STDIN_FILENO;
+use input::{full, limits};
 use sheets::format;
+use std::io;
+use std::io::Write;
 use text::say;
 use truth::labelling::Labelled;
 use truth::sizes;
 
 // Reads one byte more than is taken, so that a longer input is noticed.
-fn main() {
+fn main(rt: HostRuntime) -> io::Result<()> {
     let mut input = [0u8; limits::SHEETS_BYTES + 1];
-    let n = io::read_full(STDIN_FILENO, &mut input);
+    let n = full::read_full(&mut rt.stdin(), &mut input)?;
     let mut rows = [0u64; sizes::ROW_WORDS * format::LINES];
     let answer = answer::answer_to(&input[..n], &mut rows);
-    show(answer, &rows);
+    show(&mut rt.stdout(), answer, &rows)
 }
 
 // Prints an answer, whose rows lie in the space.
-fn show(answer: Answer, rows: &[u64])
+fn show<W: Write>(out: &mut W, answer: Answer, rows: &[u64]) -> io::Result<()>
     requires { AnsweredRows rows.now answer }
 {
     let labelled = answer.labelled;
     match labelled {
-        Labelled::Refused { question, sheet } => say::refusal(question, sheet),
+        Labelled::Refused { question, sheet } => say::refusal(out, question, sheet),
         Labelled::Done {
             kept,
             count,
             percent,
         } => {
-            print::rows(rows, answer.nodes, answer.lines);
-            print::verdict(answer.nodes, kept, count, percent);
+            print::rows(out, rows, answer.nodes, answer.lines)?;
+            print::verdict(out, answer.nodes, kept, count, percent)
         }
     }
 }

@@ -9,52 +9,59 @@ mod print; // print.rt: what is printed
 ghost use Rattle.path.specs.inner.AnsweredLists.{AnsweredLists};
 
 use arguments::Asked;
-use input::limits;
-use libc::{STDERR_FILENO, STDIN_FILENO};
+use input::{args, full, limits};
+use std::io;
+use std::io::{Read, Write};
 use text::say;
 use truth::path::Shown;
 use truth::sizes;
 
-fn usage() {
-    io::write_all(
-        STDERR_FILENO,
+fn usage<W: Write>(err: &mut W) -> io::Result<()> {
+    say::text(
+        err,
         b"usage: path LINE NODE, two numbers; line 0 is the last; a machine sheet and then a rule sheet on standard input\n",
-    );
+    )
 }
 
 // Reads one byte more than is taken, so that a longer input is noticed.
-fn show(line: u16, node: u16) {
+fn show<R: Read, W: Write>(from: &mut R, out: &mut W, line: u16, node: u16) -> io::Result<()> {
     let mut input = [0u8; limits::SHEETS_BYTES + 1];
-    let n = io::read_full(STDIN_FILENO, &mut input);
+    let n = full::read_full(from, &mut input)?;
     let mut nodes = [0u16; sizes::PAIRS];
     let mut states = [0u16; sizes::PAIRS];
     let answer = answer::answer_to(&input[..n], line, node, &mut nodes, &mut states);
-    tell(answer, node, &nodes, &states);
+    tell(out, answer, node, &nodes, &states)
 }
 
 // Prints an answer, whose pairs lie in the lists.
-fn tell(answer: Shown, node: u16, nodes: &[u16], states: &[u16])
+fn tell<W: Write>(
+    out: &mut W,
+    answer: Shown,
+    node: u16,
+    nodes: &[u16],
+    states: &[u16],
+) -> io::Result<()>
     requires { AnsweredLists nodes.now states.now answer }
 {
     match answer {
-        Shown::Refused { question, sheet } => say::refusal(question, sheet),
-        Shown::NoPath => print::no_path(node),
+        Shown::Refused { question, sheet } => say::refusal(out, question, sheet),
+        Shown::NoPath => print::no_path(out, node),
         Shown::Path { length, back } => {
-            print::pairs(nodes, states, length);
-            print::back_to(back);
+            print::pairs(out, nodes, states, length)?;
+            print::back_to(out, back)
         }
     }
 }
 
 // An argument that is missing or longer than 16 bytes is taken for an empty one.
-fn main() {
+fn main(rt: HostRuntime) -> io::Result<()> {
     let mut first = [0u8; 16];
-    let n = os::arg(1, &mut first);
+    let n = args::arg(&rt, 1, &mut first);
     let mut second = [0u8; 16];
-    let m = os::arg(2, &mut second);
-    let asked = arguments::asked_for(os::arg_count(), &first[..n], &second[..m]);
+    let m = args::arg(&rt, 2, &mut second);
+    let asked = arguments::asked_for(args::arg_count(&rt), &first[..n], &second[..m]);
     match asked {
-        Asked::Path { line, node } => show(line, node),
-        Asked::Usage => usage(),
+        Asked::Path { line, node } => show(&mut rt.stdin(), &mut rt.stdout(), line, node),
+        Asked::Usage => usage(&mut rt.stderr()),
     }
 }

@@ -1,4 +1,4 @@
--- Two words are the same exactly where they are equal as lists: the answer of `check::same`.
+-- Two words are the same exactly where they are equal as lists: the answer of `==`.
 use mathlib.Core.Path.{◌≡◌, refl, sym}
 use Prim.Native.Nat.{ℕ}
 use mathlib.Core.List.{List, [], ◌∷◌}

@@ -44,9 +44,9 @@ unfolding check_line refused_line
 is-accepted Accepted e = refl
 is-accepted (Refused q i) e = let z : ◌≡◌ {A = ℕ} 114 97 = cc in absurd (omega arith)
 
-as_bytes : (sort : Sort) (bytes : List ℕ) (answer : Answer) → Checked sort false bytes answer
+as-bytes : (sort : Sort) (bytes : List ℕ) (answer : Answer) → Checked sort false bytes answer
     → (check : Check) × (answer ≡ Says.Checked check) × CheckedBytes sort bytes check
-as_bytes sort bytes answer (as_bytes {check = check} c) = (check, refl, c)
+as-bytes sort bytes answer (as_bytes {check = check} c) = (check, refl, c)
 
 module _ (sort : Sort) (bytes : List ℕ) where
   abbrev first : Refusal
@@ -71,7 +71,7 @@ module _ (sort : Sort) (bytes : List ℕ) where
 
   module _ (told : Told·.Told) (h : Told sort false bytes told) where
     abbrev checked : (check : Check) × (told.answer ≡ Says.Checked check) × CheckedBytes sort bytes check
-    checked = as_bytes sort bytes told.answer h.answered
+    checked = as-bytes sort bytes told.answer h.answered
 
     said : text told.line ≡ check_line checked.0
     unfolding line_bytes

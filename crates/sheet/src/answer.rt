@@ -19,7 +19,7 @@ pub enum Sort {
 }
 
 // The answer to the input: a check's; or, where it is a text, its first fault, or that it is too long.
-#[derive(Drop)]
+#[derive(Clone, Copy)]
 pub enum Answer {
     Checked { check: Check },
     Fault { kind: Kind, at: Place },

@@ -13,14 +13,21 @@ pub enum Asked {
     Usage,
 }
 
+// Whether two words are the same.
+fn same(word: &[u8], other: &[u8]) -> bool
+    ensures { result ≡ same word.now other.now }
+{
+    word == other
+}
+
 // What a word asks for that is the first of two names, or the second, or another.
 fn named(word: &[u8], first: &[u8], one: Asked, second: &[u8], two: Asked, other: Asked) -> Asked
     ensures { result ≡ cond (same word.now first.now) one (cond (same word.now second.now) two other) }
 {
-    if check::same(word, first) {
+    if same(word, first) {
         return one;
     }
-    if check::same(word, second) {
+    if same(word, second) {
         return two;
     }
     other
@@ -58,7 +65,7 @@ pub fn asked_for(count: usize, first: &[u8], second: &[u8]) -> Asked
     if count != 3 {
         return Asked::Usage;
     }
-    if !check::same(second, b"text") {
+    if !same(second, b"text") {
         return Asked::Usage;
     }
     check_of(true, first)

@@ -12,23 +12,28 @@ ghost use Rattle.sheet.specs.inner.Parts.{Part};
 use answer::{Answer, Sort};
 use asked::Asked;
 use input::turn::Turned;
-use input::{limits, turn};
-use libc::{STDERR_FILENO, STDIN_FILENO, STDOUT_FILENO};
+use input::{args, full, limits, turn};
 use sheets::checks::Check;
+use std::io;
+use std::io::{Read, Write};
 use text::read::{Kind, Place};
 use text::{say, write};
 
-fn main() {
+fn main(rt: HostRuntime) -> io::Result<()> {
     let mut first = [0u8; 8];
-    let n = os::arg(1, &mut first);
+    let n = args::arg(&rt, 1, &mut first);
     let mut second = [0u8; 8];
-    let m = os::arg(2, &mut second);
-    let asked = asked::asked_for(os::arg_count(), &first[..n], &second[..m]);
+    let m = args::arg(&rt, 2, &mut second);
+    let asked = asked::asked_for(args::arg_count(&rt), &first[..n], &second[..m]);
+    let mut from = rt.stdin();
+    let mut out = rt.stdout();
+    let mut err = rt.stderr();
     match asked {
-        Asked::Bytes => bytes(),
-        Asked::Text => text(),
-        Asked::Check { sort, text } => check(sort, text),
+        Asked::Bytes => bytes(&mut from, &mut out, &mut err),
+        Asked::Text => text(&mut from, &mut out, &mut err),
+        Asked::Check { sort, text } => check(&mut from, &mut out, &mut err, sort, text),
         Asked::Usage => complain(
+            &mut err,
             b"usage: sheet bytes (text in, bytes out), sheet text (bytes in, text out), or sheet machine, sheet rules (bytes in), sheet machine text, sheet rules text (text in): accepted, or refused and why\n",
         ),
     }
@@ -49,86 +54,106 @@ fn turned_text(sheet: &[u8], text: &mut [u8]) -> Turned
 }
 
 // Text in, bytes out. One byte more is read than is taken, so that a longer text is noticed.
-fn bytes() {
+fn bytes<R: Read, W: Write, E: Write>(from: &mut R, out: &mut W, err: &mut E) -> io::Result<()> {
     let mut text = [0u8; limits::TEXT_BYTES + 1];
-    let n = io::read_full(STDIN_FILENO, &mut text);
+    let n = full::read_full(from, &mut text)?;
     let mut sheet = [0u8; limits::SHEETS_BYTES];
     let turned = turned_bytes(&text[..n], &mut sheet);
-    tell(turned, &sheet, b"more than 200000 bytes\n");
+    tell(out, err, turned, &sheet, b"more than 200000 bytes\n")
 }
 
 // Bytes in, text out; six bytes of text are enough for a word.
-fn text() {
+fn text<R: Read, W: Write, E: Write>(from: &mut R, out: &mut W, err: &mut E) -> io::Result<()> {
     let mut sheet = [0u8; limits::SHEETS_BYTES + 1];
-    let n = io::read_full(STDIN_FILENO, &mut sheet);
+    let n = full::read_full(from, &mut sheet)?;
     let mut text = [0u8; write::WORD_BYTES * limits::SHEETS_WORDS];
     let turned = turned_text(&sheet[..n], &mut text);
-    tell(turned, &text, b"more than 29006 bytes, 14503 words\n");
+    tell(
+        out,
+        err,
+        turned,
+        &text,
+        b"more than 29006 bytes, 14503 words\n",
+    )
 }
 
 // A sheet in; its line out, and a refusal in words. One byte more is read than is taken of a text, and more than is taken of bytes.
-fn check(sort: Sort, text: bool) {
+fn check<R: Read, W: Write, E: Write>(
+    from: &mut R,
+    out: &mut W,
+    err: &mut E,
+    sort: Sort,
+    text: bool,
+) -> io::Result<()> {
     let mut input = [0u8; limits::TEXT_BYTES + 1];
-    let n = io::read_full(STDIN_FILENO, &mut input);
+    let n = full::read_full(from, &mut input)?;
     let told = answer::told_for(sort, text, &input[..n]);
-    say::line(told.line);
+    say::line(out, told.line)?;
     let answer = told.answer;
     match answer {
-        Answer::Checked { check } => explain(check),
-        Answer::Fault { kind, at } => complain_of(kind, at),
-        Answer::Long => complain(b"more than 200000 bytes\n"),
+        Answer::Checked { check } => explain(out, check),
+        Answer::Fault { kind, at } => complain_of(err, kind, at),
+        Answer::Long => complain(err, b"more than 200000 bytes\n"),
     }
 }
 
 // A refusal in words. It names no sheet, since there is one only.
-fn explain(check: Check) {
+fn explain<W: Write>(out: &mut W, check: Check) -> io::Result<()> {
     match check {
-        Check::Accepted => {}
-        Check::Refused { question, sheet: _ } => say::refusal(question, 0),
+        Check::Accepted => Ok(()),
+        Check::Refused { question, sheet: _ } => say::refusal(out, question, 0),
     }
 }
 
 // Prints what is written, or what is wrong; `long` says that more bytes came than are taken.
-fn tell(turned: Turned, written: &[u8], long: &[u8])
+fn tell<W: Write, E: Write>(
+    out: &mut W,
+    err: &mut E,
+    turned: Turned,
+    written: &[u8],
+    long: &[u8],
+) -> io::Result<()>
     requires { Part turned written.now }
 {
-    show(turned, written);
-    blame(turned, long);
+    show(out, turned, written)?;
+    blame(err, turned, long)
 }
 
 // Prints what is written.
-fn show(turned: Turned, written: &[u8])
+fn show<W: Write>(out: &mut W, turned: Turned, written: &[u8]) -> io::Result<()>
     requires { Part turned written.now }
 {
     let Turned::Done { count } = turned else {
-        return;
+        return Ok(());
     };
-    io::write_all(STDOUT_FILENO, &written[..count]);
+    say::text(out, &written[..count])
 }
 
 // Prints what is wrong, if anything is.
-fn blame(turned: Turned, long: &[u8]) {
+fn blame<E: Write>(err: &mut E, turned: Turned, long: &[u8]) -> io::Result<()> {
     match turned {
-        Turned::Done { count: _ } => {}
-        Turned::Fault { kind, at } => complain_of(kind, at),
-        Turned::Odd => complain(b"an odd number of bytes\n"),
-        Turned::Long => complain(long),
-        Turned::NoRoom => complain(b"too little space\n"),
+        Turned::Done { count: _ } => Ok(()),
+        Turned::Fault { kind, at } => complain_of(err, kind, at),
+        Turned::Odd => complain(err, b"an odd number of bytes\n"),
+        Turned::Long => complain(err, long),
+        Turned::NoRoom => complain(err, b"too little space\n"),
     }
 }
 
-fn complain_of(kind: Kind, at: Place) {
-    complain(b"line ");
-    io::print_decimal(STDERR_FILENO, at.line as u64);
-    complain(b", column ");
-    io::print_decimal(STDERR_FILENO, at.column as u64);
+fn complain_of<E: Write>(err: &mut E, kind: Kind, at: Place) -> io::Result<()> {
+    let line = at.line;
+    let column = at.column;
+    complain(err, b"line ")?;
+    write!(err, "{line}")?;
+    complain(err, b", column ")?;
+    write!(err, "{column}")?;
     match kind {
-        Kind::NotDecimal => complain(b": this is not a decimal number\n"),
-        Kind::Above => complain(b": the number is above 65535\n"),
-        Kind::NoRoom => complain(b": more than 14503 words\n"),
+        Kind::NotDecimal => complain(err, b": this is not a decimal number\n"),
+        Kind::Above => complain(err, b": the number is above 65535\n"),
+        Kind::NoRoom => complain(err, b": more than 14503 words\n"),
     }
 }
 
-fn complain(line: &[u8]) {
-    io::write_all(STDERR_FILENO, line);
+fn complain<E: Write>(err: &mut E, line: &[u8]) -> io::Result<()> {
+    say::text(err, line)
 }

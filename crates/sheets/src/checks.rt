@@ -10,7 +10,7 @@ ghost use Rattle.sheets.specs.CheckAnswers.{Answered};
 use crate::{automata, condition, lines, machine, rules};
 
 // The answer of a check: the refusing question's number, and for questions 1 to 6 the number of the sheet.
-#[derive(Drop)]
+#[derive(Clone, Copy)]
 pub enum Check {
     Accepted,
     Refused { question: u16, sheet: u16 },

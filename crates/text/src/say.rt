@@ -1,6 +1,6 @@
-// Words for a reader, to a writer: a text, a line, a number, a refusal. What a text and a line add to a writer is said where the writer
-// says what it holds; of the others each is proved safe and ends.
-ghost use Rattle.std.specs.Prelude.{ℕ, List, OnOk, take};
+// Words for a reader, to a writer: a text, a line, a number, a refusal. What a text, a line and a number add to a writer is said, where
+// the writer says what it holds; a refusal is proved safe and ends.
+ghost use Rattle.std.specs.Prelude.{ℕ, List, OnOk, take, decimal};
 ghost use Rattle.std.specs.Io.KnownBytes.{Appends};
 ghost use Rattle.text.specs.Lines.{Holds};
 
@@ -27,7 +27,9 @@ pub fn line<W: Write>(out: &mut W, line: Line) -> io::Result<()>
 }
 
 // Prints a number in decimal digits.
-pub fn number<W: Write>(out: &mut W, n: u16) -> io::Result<()> {
+pub fn number<W: Write>(out: &mut W, n: u16) -> io::Result<()>
+    ensures { OnOk result (Appends (W.contents out.old) (W.contents out.new) (decimal n)) }
+{
     write!(out, "{n}")
 }
 

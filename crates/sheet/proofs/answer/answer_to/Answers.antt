@@ -1,0 +1,9 @@
+-- `answer_to` meets its contract: a text is taken for one, and bytes for bytes.
+use Rattle.sheet.specs.Program as Program
+use Rattle.sheet.proofs.answer.answer_to.Goals as goal
+
+pub returns-then-text : goal.returns-then-text
+returns-then-text c = rw c.if-text.true (Program.as_text c.check_text.ensures)
+
+pub returns : goal.returns
+returns c = rw c.if-text.false (Program.as_bytes c.check_bytes-check.ensures)
