@@ -1,7 +1,7 @@
 //! Links the static library of the proved code to the integration tests and benchmarks, and to nothing else:
 //! the package itself and its unit tests stand without it.
 //!
-//! `rt staticlib exports`, run in the repository root, writes the archive. The environment
+//! `bash build.sh`, run in the repository root, writes the archive. The environment
 //! variable `EXPORTS_DIR` names another directory to take it from, relative to the package.
 
 use std::env;
@@ -14,7 +14,7 @@ fn main() {
     println!("cargo:rerun-if-changed={}", archive.display());
     if !archive.exists() {
         println!(
-            "cargo:warning=libexports.a is missing: run `rt staticlib exports` in the repository \
+            "cargo:warning=libexports.a is missing: run `bash build.sh` in the repository \
              root before the integration tests"
         );
     }

@@ -1,4 +1,4 @@
-/* The proved calls, as target/staticlib/libexports.a exports them (`rt staticlib exports`, x86-64 Linux).
+/* The proved calls, as target/staticlib/libexports.a exports them (`bash build.sh`, x86-64 Linux).
  *
  * A sheet is an array of 16-bit words and its length. Each call takes any words, empty arrays too, always ends, and writes only where
  * it says. The result is the number of the question that refuses, or 0; then *sheet is 1 or 2 for questions 1 to 6, else 0.

@@ -2,7 +2,7 @@
 //! compared with what is decided here, from the text of the scope document and of the requests that
 //! changed it alone, and by other algorithms.
 //!
-//! `cargo test --release` runs everything, once `rt staticlib exports` in the repository root has
+//! `cargo test --release` runs everything, once `bash build.sh` in the repository root has
 //! written the static library; `cargo test --release --lib` needs no library.
 //!
 //! - `format`: the numbers of the sheet format, which all the others cite.

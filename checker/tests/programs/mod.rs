@@ -1,4 +1,4 @@
-//! Runs the proved programs, which `rt check` leaves in target/bin.
+//! Runs the proved programs, which `build.sh` leaves in target/bin.
 
 use std::io::Write;
 use std::path::PathBuf;
@@ -14,7 +14,7 @@ pub fn run_in_pieces(name: &str, arguments: &[&str], input: &[u8], size: usize) 
         .stdout(Stdio::piped())
         .stderr(Stdio::piped())
         .spawn()
-        .expect("the program is there once `rt check` has run");
+        .expect("the program is there once `build.sh` has run");
     let mut pipe = child.stdin.take().expect("the input is a pipe");
     let pieces: Vec<Vec<u8>> = input.chunks(size).map(<[u8]>::to_vec).collect();
     let writer = std::thread::spawn(move || {
