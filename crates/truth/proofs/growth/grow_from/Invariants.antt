@@ -1,5 +1,5 @@
 -- `grow_from` meets its contract. The invariant: the pairs of the positions that are no longer left are added. The measure is how many are left.
-use Prim.Native.Nat.{ℕ, ◌-◌}
+use Prim.Native.Nat.{ℕ}
 use lib.Dec.{T}
 use Rattle.sheets.proofs.Counting.{number}
 use Rattle.truth.specs.Sizes.{members_most}

@@ -1,12 +1,7 @@
 -- `make` meets its contract: the first "no" of the table refuses; where none does, the asked line is shown by the rows of the lines above it.
-use borrow.Author.Rules.{rules}
-use mathlib.Core.Path.{◌≡◌}
-use Prim.Native.Nat.{◌≤◌}
 use mathlib.Core.Bool.{true, false}
 use borrow.Author.Tests.{eq-eqb, ne_eqb}
 use native.Mathlib.Omega.{arith}
-use Rattle.sheets.specs.Machine.{machine_refusal}
-use Rattle.sheets.specs.Rules.{lent, lines, rule_refusal}
 use Rattle.truth.proofs.path.PathMade.{rows_fit, refused, machine-accepted, rules-accepted, line-in, show-ready, shown}
 use Rattle.truth.proofs.path.make.Goals as goal
 

@@ -1,7 +1,6 @@
 -- `path_lists` meets its contract: what was made is written over the first words of the lent lists, and shows the same path there.
 -- No list has more than 2048 pairs, so that more room than that changes no answer.
 use mathlib.Core.Path.{◌≡◌}
-use Prim.Native.Nat.{min, ◌≤◌}
 use native.Mathlib.Omega.{arith}
 use lib.ListN.{length}
 use Rattle.truth.specs.Sizes.{pairs_most}

@@ -2,16 +2,11 @@
 -- trail, its positions named, is the list.
 -- ---- places before the row is looked at
 use borrow.Author.Rules.{rules}
-use mathlib.Core.Path.{◌≡◌, subst}
-use Prim.Native.Nat.{ℕ}
-use mathlib.Core.List.{List}
+use mathlib.Core.Path.{◌≡◌}
 use native.Mathlib.Omega.{arith}
 use lib.ListN.{length}
-use Rattle.sheets.specs.Positioned.{state_count, state_of, positioned}
 use Rattle.truth.specs.Sizes.{pairs_most}
 use Rattle.truth.specs.inner.Pairs.{Timed}
-use Rattle.truth.specs.inner.Product.{line_at, argument_of}
-use Rattle.truth.specs.inner.OneLine.{SolvedLine}
 use Rattle.truth.proofs.lines.PathRows.{states-few, solvable}
 use Rattle.truth.proofs.path.ShownLines.{none-shown, traceable, list-fits, shows-line}
 use Rattle.truth.proofs.path.show.Goals as goal
@@ -28,10 +23,6 @@ returns-then-not-has c =
     let load = c.load-row.ensures in
     let line = rw c.arguments.ensures at (c.solve-solved.ensures _ _ _ c.by_position-a.ensures) in
     none-shown c.requires.0 line c.args.s c.requires.1.0 c.requires.1.1 load.0 load.1 c.has.ensures c.if-not-has.true _ _
-
-pub overflow_cast-t : goal.overflow_cast-t
-overflow_cast-t c =
-    omega (arith, states-few c.requires.0, c.by_position-a.ensures.count)
 
 pub trace-found-requires : goal.trace-found-requires
 trace-found-requires c =
