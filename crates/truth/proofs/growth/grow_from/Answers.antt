@@ -1,7 +1,6 @@
 -- `grow_from` meets its contract. The invariant: the pairs of the positions that are no longer left are added. The measure is how many are left.
-use mathlib.Core.Path.{◌∙◌}
 use mathlib.Core.Logic.{◌↔◌}
-use Prim.Native.Nat.{ℕ, ◌≤◌}
+use Prim.Native.Nat.{ℕ}
 use native.Mathlib.Omega.{arith}
 use lib.Dec.{T}
 use Rattle.sheets.proofs.Tests.{and_left}
@@ -12,41 +11,11 @@ use Rattle.truth.specs.inner.Growing.{enters}
 use Rattle.truth.proofs.rows.RowLaws.{held_in}
 use Rattle.truth.proofs.rows.RowWalks.{none_left, one_left, one-within, less-falls, less-in}
 use Rattle.truth.proofs.tables.TableLaws.{emptied}
-use Rattle.truth.proofs.growth.Spreading.{spread_none, spread-more, spread_same, among_none, among_next, among-end}
+use Rattle.truth.proofs.growth.Spreading.{spread-more, spread_same, among_next, among-end}
 use Rattle.truth.proofs.growth.grow_from.Goals as goal
-
--- the member that is found
-few : (c : goal.Else-u-eq0) → (1 ≤ c.first-u.result) × (c.first-u.result ≤ c.args.t)
-few c =
-    let f = c.first-u.ensures in
-    let n = c.if-u-eq0.false in
-    let from = c.load-left.ensures in
-    ((one-within _ _ _ f n).0, c.requires.4.few c.args.p2 _ (rw (from.0, from.1) at (c.loop-prev.invariant.0 _ (one_left _ _ f n))))
-
-pub load-requires : goal.load-requires
-load-requires c = omega arith
 
 pub together-prev-requires : goal.together-prev-requires
 together-prev-requires c = λ u t. omega (arith, (held_in _ _ u t).1)
-
-pub empty-requires : goal.empty-requires
-empty-requires c = omega arith
-
-pub store-requires : goal.store-requires
-store-requires c = omega arith
-
-pub load-left-requires : goal.load-left-requires
-load-left-requires c = omega (arith, c.requires.0, c.requires.1)
-
-pub loop-prev-init : goal.loop-prev-init
-loop-prev-init c =
-    (λ u t. t, spread_none (among_none (row_has c.load-left.result) (enters c.args.allow.now c.args.p2 (row_has c.together-prev.result))))
-
-pub first-u-requires : goal.first-u-requires
-first-u-requires c = omega arith
-
-pub shape_of-times-then-u-eq0 : goal.shape_of-times-then-u-eq0
-shape_of-times-then-u-eq0 c = c.loop-prev.invariant.1.times-size
 
 pub returns-then-u-eq0 : goal.returns-then-u-eq0
 returns-then-u-eq0 c =
@@ -71,23 +40,6 @@ returns-then-u-eq0 c =
       clears = clears;
       spread = spread_same same l.invariant.1;
     }
-
-pub without-left-requires : goal.without-left-requires
-without-left-requires c = omega arith
-
-pub overflow_cast-u : goal.overflow_cast-u
-overflow_cast-u c = omega arith
-
-pub overflow_sub-u : goal.overflow_sub-u
-overflow_sub-u c = omega (arith, few (search))
-
-pub grow_one-requires : goal.grow_one-requires
-grow_one-requires c =
-    let pre = c.requires in
-    let g = c.loop-prev.invariant.1 in
-    let a = c.args in
-    let clears : Cleared a.p2 a.new.now c.store.new.rows = emptied a.new.now _ a.p2 _ _ (omega (arith, pre.0, pre.1, pre.3)) c.store.ensures c.empty.ensures in
-    (omega (arith, few (search), pre.1), omega (arith, pre.0, pre.1), g.ys-size ∙ pre.2, g.new-size ∙ clears.size ∙ pre.3)
 
 pub loop-prev-smaller : goal.loop-prev-smaller
 loop-prev-smaller c =

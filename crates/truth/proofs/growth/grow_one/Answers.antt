@@ -10,50 +10,11 @@ use Rattle.truth.proofs.tables.TableLaws.{stored-length, stored_more}
 use Rattle.truth.proofs.growth.RowAdditions.{spread-one, spread-empty, no-time-put}
 use Rattle.truth.proofs.growth.grow_one.Goals as goal
 
-pub load-here-requires : goal.load-here-requires
-load-here-requires c = omega arith
-
-pub overflow_mul-p : goal.overflow_mul-p
-overflow_mul-p c = omega arith
-
-pub overflow_add-p : goal.overflow_add-p
-overflow_add-p c = omega arith
-
-pub load-requires : goal.load-requires
-load-requires c = omega arith
-
-pub intersection-requires : goal.intersection-requires
-intersection-requires c = omega arith
-
-pub difference-extra-requires : goal.difference-extra-requires
-difference-extra-requires c = omega arith
-
-pub is_empty-requires : goal.is_empty-requires
-is_empty-requires c = omega arith
-
 pub returns-then-is_empty : goal.returns-then-is_empty
 returns-then-is_empty c =
     let a = c.args in
     let here = c.load-here.ensures in
     spread-empty (enters a.allow.now a.p2 (row_has a.prev) a.p) _ _ _ _ _ _ _ (λ s. rw (c.intersection.ensures s, c.load.ensures.0, c.load.ensures.1, here.0, here.1) at (c.difference-extra.ensures s)) (sym c.if-is_empty.true ∙ c.is_empty.ensures)
-
-pub union-requires : goal.union-requires
-union-requires c = omega arith
-
-pub store-requires : goal.store-requires
-store-requires c = omega arith
-
-pub load-fresh-requires : goal.load-fresh-requires
-load-fresh-requires c = omega arith
-
-pub union-requires-2 : goal.union-requires-2
-union-requires-2 c = omega arith
-
-pub store-requires-2 : goal.store-requires-2
-store-requires-2 c = c.requires.0
-
-pub put_time-requires : goal.put_time-requires
-put_time-requires c = (c.requires.0, omega (arith, c.if-times-lt-PAIRS.false))
 
 pub returns-then-times-lt-PAIRS : goal.returns-then-times-lt-PAIRS
 returns-then-times-lt-PAIRS c =
@@ -70,9 +31,6 @@ returns-then-times-lt-PAIRS c =
     (rw e (stored_more a.ys.now a.p _ _ long (row_has c.difference-extra.result) (λ s. rw (here.0, here.1) at (c.union.ensures s))))
     (rw f (stored_more a.new.now a.p _ _ long' (row_has c.difference-extra.result) (λ s. rw (new.0, new.1) at (c.union-2.ensures s))))
     (no-time-put (λ room. omega (arith, c.if-times-lt-PAIRS.true, room)))
-
-pub shape_of-times : goal.shape_of-times
-shape_of-times c = c.put_time.ensures.size
 
 pub returns : goal.returns
 returns c =

@@ -14,19 +14,10 @@ use Rattle.truth.proofs.rows.RowLaws.{tally-number}
 use Rattle.truth.proofs.labelling.LabelAnswers.{refused, done}
 use Rattle.truth.proofs.labelling.label.Goals as goal
 
-pub label_refusal-question-requires : goal.label_refusal-question-requires
-label_refusal-question-requires c = omega arith
-
-pub sheet_of-requires : goal.sheet_of-requires
-sheet_of-requires c = omega arith
-
 pub returns-then-question-ne0 : goal.returns-then-question-ne0
 returns-then-question-ne0 c =
     let a = c.args in
     refused a.m.now a.r.now a.rows.now _ c.label_refusal-question.ensures _ c.if-question-ne0.true c.sheet_of.ensures
-
-pub lines-l-requires : goal.lines-l-requires
-lines-l-requires c = omega arith
 
 pub label_lines-requires : goal.label_lines-requires
 label_lines-requires c =
@@ -39,9 +30,6 @@ label_lines-requires c =
     let l = c.lines-l.ensures in
     (machine, (rules, (omega arith, omega arith)))
 
-pub overflow_cast-l : goal.overflow_cast-l
-overflow_cast-l c = omega arith
-
 pub line_row-last-requires : goal.line_row-last-requires
 line_row-last-requires c =
     let a = c.args in
@@ -53,18 +41,12 @@ line_row-last-requires c =
     let l = c.lines-l.ensures in
     (omega arith, omega (arith, c.label_lines.ensures.size))
 
-pub count-count-requires : goal.count-count-requires
-count-count-requires c = omega arith
-
 pub keeps-requires : goal.keeps-requires
 keeps-requires c =
     let a = c.args in
     let e = sym c.if-question-ne0.false ∙ c.label_refusal-question.ensures in
     let space = length a.rows.now in
     (nodes-sized _ (machine-accepted a.m.now a.r.now space e)).1
-
-pub nodes-requires : goal.nodes-requires
-nodes-requires c = omega arith
 
 pub percent-requires : goal.percent-requires
 percent-requires c =

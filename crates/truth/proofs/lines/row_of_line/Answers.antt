@@ -3,21 +3,11 @@ use mathlib.Core.Path.{sym, ◌∙◌}
 use mathlib.Core.Bool.{true, false}
 use Rattle.truth.proofs.lines.DecodedKinds.{told}
 use Rattle.truth.proofs.lines.LineRows.{negation-above, either-above, path-ready, malformed-row, signal-row, negation-row, either-row, path-row}
-use native.Mathlib.Omega.{arith}
 use Rattle.truth.proofs.lines.row_of_line.Goals as goal
-
-pub decode-decoded-requires : goal.decode-decoded-requires
-decode-decoded-requires c = omega arith
-
-pub empty-requires : goal.empty-requires
-empty-requires c = omega arith
 
 pub returns-in_default : goal.returns-in_default
 returns-in_default c =
     malformed-row c.requires (sym c.decode-decoded.ensures ∙ c.in_default.is)
-
-pub signal_row-requires : goal.signal_row-requires
-signal_row-requires c = omega arith
 
 pub negation_row-requires : goal.negation_row-requires
 negation_row-requires c = negation-above c.requires (told c.args.r.now c.args.j c.decode-decoded.ensures c.in-Formed.is c.in-Negation.is)

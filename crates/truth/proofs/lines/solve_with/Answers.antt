@@ -13,12 +13,6 @@ use Rattle.truth.proofs.tables.LinkedSets.{linked-none}
 use Rattle.truth.proofs.lines.PathRows.{solved-line}
 use Rattle.truth.proofs.lines.solve_with.Goals as goal
 
-pub nodes-requires : goal.nodes-requires
-nodes-requires c = omega arith
-
-pub node_row-all-requires : goal.node_row-all-requires
-node_row-all-requires c = omega arith
-
 pub allow_table-requires : goal.allow_table-requires
 allow_table-requires c =
     let pre = c.requires in (
@@ -30,24 +24,6 @@ allow_table-requires c =
       linked-none (λ k q. cell q k) _ _ _ refl pre.2 (λ p s x. rw (zero_row set_words p s) at x),
       linked-none cell _ _ _ refl pre.2 (λ p s x. rw (zero_row set_words p s) at x),
     )
-
-pub good_table-goods-requires : goal.good_table-goods-requires
-good_table-goods-requires c = c.requires.0.few
-
-pub overflow_cast-t : goal.overflow_cast-t
-overflow_cast-t c = omega arith
-
-pub trim-lasting-requires : goal.trim-lasting-requires
-trim-lasting-requires c =
-    (c.requires.0.few, c.allow_table.ensures.into, c.allow_table.ensures.onto)
-
-pub overflow_cast-t-2 : goal.overflow_cast-t-2
-overflow_cast-t-2 c = let few = c.requires.0.few in omega (arith, few)
-
-pub grow-reached-requires : goal.grow-reached-requires
-grow-reached-requires c =
-    let pre = c.requires in
-    (pre.0.few, pre.3, c.allow_table.ensures.into)
 
 pub returns : goal.returns
 returns c A t name is =

@@ -24,10 +24,6 @@ returns-then-not-has c =
     let line = rw c.arguments.ensures at (c.solve-solved.ensures _ _ _ c.by_position-a.ensures) in
     none-shown c.requires.0 line c.args.s c.requires.1.0 c.requires.1.1 load.0 load.1 c.has.ensures c.if-not-has.true _ _
 
-pub overflow_cast-t : goal.overflow_cast-t
-overflow_cast-t c =
-    omega (arith, states-few c.requires.0, c.by_position-a.ensures.count)
-
 pub trace-found-requires : goal.trace-found-requires
 trace-found-requires c =
     let load = c.load-row.ensures in
