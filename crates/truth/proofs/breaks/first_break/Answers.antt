@@ -1,6 +1,5 @@
 -- `first_break` meets its contract. The invariant: the start nodes up to s are in the row. The measure is the nodes left.
 use mathlib.Core.Path.{◌≡◌, sym, ◌∙◌}
-use borrow.Author.Tests.{not-true, not-false}
 use native.Mathlib.Omega.{arith}
 use Rattle.sheets.specs.Machine.{nodes}
 use Rattle.truth.specs.inner.Rows.{row_has}
@@ -19,14 +18,14 @@ returns-then-not-has c =
     let flag = sym c.start_flag.ensures ∙ c.if-start_flag-eq1.true in
     let n = c.nodes-n in
     outside-found a.m.now (row_has a.row) at.s at.invariant.1 (omega (arith, n.ensures)) flag
-    (sym c.has.ensures ∙ not-true c.has.result c.if-not-has.true-raw)
+    (sym c.has.ensures ∙ c.if-not-has.true)
 
 pub loop-s-preserved-else-not-has : goal.loop-s-preserved-else-not-has
 loop-s-preserved-else-not-has c =
     let a = c.args in
     let at = c.loop-s in
     let has = c.has in
-    (omega arith, passed-in a.m.now (row_has a.row) at.s at.invariant.1 (sym has.ensures ∙ not-false has.result c.if-not-has.false-raw))
+    (omega arith, passed-in a.m.now (row_has a.row) at.s at.invariant.1 (sym has.ensures ∙ c.if-not-has.false))
 
 pub loop-s-preserved : goal.loop-s-preserved
 loop-s-preserved c =

@@ -1,13 +1,13 @@
 -- `label` meets its contract: the first "no" of the table refuses, and where none does, the last row answers.
 use mathlib.Core.Path.{sym, ◌∙◌}
-use Prim.Native.Nat.{◌+◌, ◌-◌, ◌*◌, ◌^◌, ◌<◌}
+use Prim.Native.Nat.{◌^◌, ◌<◌}
 use native.Mathlib.Omega.{arith}
 use lib.ListN.{length}
 use Rattle.sheets.specs.Rules.{lent}
 use Rattle.sheets.proofs.Counting.{number-most}
 use Rattle.sheets.proofs.AcceptedMachine.{nodes-sized}
 use Rattle.sheets.proofs.AcceptedRule.{some-line}
-use Rattle.truth.specs.Sizes.{row_words, members_most, row_word_bits}
+use Rattle.truth.specs.Sizes.{members_most, row_word_bits}
 use Rattle.truth.specs.inner.Rows.{row_has}
 use Rattle.truth.proofs.labelling.LabelTable.{machine-accepted, rules-accepted, space-enough}
 use Rattle.truth.proofs.rows.RowLaws.{tally-number}
@@ -61,10 +61,8 @@ returns c =
     let a = c.args in
     let lines = c.lines-l in
     let row = c.line_row-last in
-    let i = row_words * (lines.result - 1) in
-    let below = c.slice_known-2-1.given in
-    let lo : row.result.low < 2 ^ row_word_bits = omega (arith, row.ensures.0, below i) in
-    let hi : row.result.high < 2 ^ row_word_bits = omega (arith, row.ensures.1, below (i + 1)) in
+    let lo : row.result.low < 2 ^ row_word_bits = omega arith in
+    let hi : row.result.high < 2 ^ row_word_bits = omega arith in
     done a.m.now a.r.now a.rows.now _ c.label_refusal-question.ensures _ row.result.low row.result.high _ _ _ _ c.if-question-ne0.false
     (rw lines.ensures at c.label_lines.ensures) lines.ensures row.ensures.0 row.ensures.1 lo hi c.keeps.ensures
     c.count-count.ensures (rw c.nodes.ensures at c.percent.ensures)

@@ -1,5 +1,4 @@
 -- `stuck` meets its contract. The invariant: the nodes that are no longer left are sorted. The measure is how many are left.
-use borrow.Author.Tests.{not-true, not-false}
 use mathlib.Core.Path.{◌≡◌}
 use mathlib.Core.Bool.{true, false}
 use native.Mathlib.Omega.{arith}
@@ -46,7 +45,7 @@ loop-left-preserved-then-not-steps_on c =
     let f = c.first-s.ensures in
     let r = one-within _ _ _ f n in
     let on = c.steps_on in
-    let no : on.result ≡ false = not-true on.result c.if-not-steps_on.true-raw in
+    let no : on.result ≡ false = c.if-not-steps_on.true in
     sorted-no _ _ _ _ _ _ c.loop-left.invariant (one_left _ _ f n) c.without-left.ensures _ c.with-out.ensures r.0 r.1
     (λ o. rw no at (on.ensures.1 o))
 
@@ -60,6 +59,6 @@ loop-left-smaller c =
 pub loop-left-preserved : goal.loop-left-preserved
 loop-left-preserved c =
     let on = c.steps_on in
-    let yes : on.result ≡ true = not-false on.result c.if-not-steps_on.false-raw in
+    let yes : on.result ≡ true = c.if-not-steps_on.false in
     let t = one_left _ _ c.first-s.ensures c.if-s-eq0.false in
     sorted-yes _ _ _ _ _ _ c.loop-left.invariant t c.without-left.ensures (on.ensures.0 (rw yes tt))

@@ -1,6 +1,5 @@
 -- `trim` meets its contract. The invariant: the rows were trimmed since the first pass. The measure is what the pairs that are left or gone count.
 use borrow.Author.Rules.{rules}
-use borrow.Author.Tests.{not-true, not-false}
 use mathlib.Core.Path.{◌≡◌, refl, ◌∙◌}
 use mathlib.Core.Bool.{true, false}
 use lib.ListN.{length}
@@ -26,16 +25,16 @@ trim_round-requires c =
 pub returns-then-not-trim_round : goal.returns-then-not-trim_round
 returns-then-not-trim_round c =
     let r = c.trim_round in
-    let e : r.result ≡ false = not-true r.result c.if-not-trim_round.true-raw in
+    let e : r.result ≡ false = c.if-not-trim_round.true in
     let g = trimmed-no c.loop-gone.invariant.1 r.ensures.trimmed e in
     λ n tr up. greatest c.trim_first.ensures.started g (r.ensures.none e) n tr up
 
 pub loop-gone-smaller : goal.loop-gone-smaller
 loop-gone-smaller c =
     let r = c.trim_round in
-    r.ensures.trimmed.less (not-false r.result c.if-not-trim_round.false-raw)
+    r.ensures.trimmed.less c.if-not-trim_round.false
 
 pub loop-gone-preserved : goal.loop-gone-preserved
 loop-gone-preserved c =
     let r = c.trim_round in
-    (true, trimmed-yes c.loop-gone.invariant.1 r.ensures.trimmed (not-false r.result c.if-not-trim_round.false-raw))
+    (true, trimmed-yes c.loop-gone.invariant.1 r.ensures.trimmed c.if-not-trim_round.false)
