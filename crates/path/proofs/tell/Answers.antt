@@ -1,0 +1,7 @@
+-- `tell` is safe and ends: the pairs of the answer lie in the lists.
+use Rattle.path.proofs.ShownRooms.{pairs-fit}
+use Rattle.path.proofs.tell.Goals as goal
+
+pub pairs-requires : goal.pairs-requires
+pairs-requires g c =
+    pairs-fit _ _ _ _ _ _ _ _ _ _ c.requires.answered c.in-Path.is
