@@ -2,7 +2,6 @@
 use mathlib.Core.Path.{sym, ◌∙◌}
 use native.Mathlib.Omega.{arith}
 use borrow.Author.Count.{below_more}
-use borrow.Author.Tests.{not-true, not-false}
 use Rattle.sheets.proofs.Positions.{all-taken, taken-fails}
 use borrow.Author.Rules.{rules}
 use Rattle.sheets.proofs.automata.all_total.Invariants.{test}
@@ -15,12 +14,12 @@ pub returns-then-not-total : goal.returns-then-not-total
 returns-then-not-total c =
     let a = c.args in
     let at = c.loop-k in
-    sym (taken-fails (test a.r.now a.v) a.states a.n (omega (arith, at.invariant.1)) at.k c.loop-k-test.true (sym c.total.ensures ∙ not-true _ c.if-not-total.true-raw))
+    sym (taken-fails (test a.r.now a.v) a.states a.n (omega (arith, at.invariant.1)) at.k c.loop-k-test.true (sym c.total.ensures ∙ c.if-not-total.true))
 
 pub loop-k-preserved : goal.loop-k-preserved
 loop-k-preserved c =
     let at = c.loop-k in
-    (omega arith, at.invariant.1, below_more _ _ at.invariant.2 (sym c.total.ensures ∙ not-false _ c.if-not-total.false-raw))
+    (omega arith, at.invariant.1, below_more _ _ at.invariant.2 (sym c.total.ensures ∙ c.if-not-total.false))
 
 pub returns : goal.returns
 returns c =

@@ -2,7 +2,6 @@
 use mathlib.Core.Path.{sym, ◌∙◌}
 use native.Mathlib.Omega.{arith}
 use borrow.Author.Count.{below_more}
-use borrow.Author.Tests.{not-true, not-false}
 use Rattle.sheets.specs.Rules.{states_of}
 use Rattle.sheets.proofs.Positions.{all-places, place-fails}
 use Rattle.sheets.proofs.AutomatonLoops.{fitting, fits-if-few, unfit-if-many, fits-there}
@@ -20,14 +19,14 @@ returns-then-not-out-mask_fits c =
     let k = c.loop-k.k in
     let one = fits-there a.r.now a.x k _ c.states_of-all.result _ c.states_of-all.ensures c.if-n-gt-CHAINED_MOST.false c.variables-v.ensures c.leaving-out.ensures c.mask_fits.ensures in
     sym (fits-if-few a.r.now a.x c.states_of-all.ensures.count c.if-n-gt-CHAINED_MOST.false
-    ∙ place-fails (fitting a.r.now a.x) (states_of a.r.now a.x) k (omega (arith, c.states_of-all.ensures.count)) (sym one ∙ not-true _ c.if-not-out-mask_fits.true-raw))
+    ∙ place-fails (fitting a.r.now a.x) (states_of a.r.now a.x) k (omega (arith, c.states_of-all.ensures.count)) (sym one ∙ c.if-not-out-mask_fits.true))
 
 pub loop-k-preserved : goal.loop-k-preserved
 loop-k-preserved c =
     let a = c.args in
     let k = c.loop-k.k in
     let one = fits-there a.r.now a.x k _ c.states_of-all.result _ c.states_of-all.ensures c.if-n-gt-CHAINED_MOST.false c.variables-v.ensures c.leaving-out.ensures c.mask_fits.ensures in
-    (omega arith, below_more _ _ c.loop-k.invariant.1 (sym one ∙ not-false _ c.if-not-out-mask_fits.false-raw))
+    (omega arith, below_more _ _ c.loop-k.invariant.1 (sym one ∙ c.if-not-out-mask_fits.false))
 
 pub returns : goal.returns
 returns c =

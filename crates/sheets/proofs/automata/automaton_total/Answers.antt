@@ -2,7 +2,6 @@
 -- may still be read.
 use mathlib.Core.Path.{sym, ◌∙◌}
 use native.Mathlib.Omega.{arith}
-use borrow.Author.Tests.{not-true, not-false}
 use Rattle.sheets.specs.Rules.{next_state, automaton_total}
 use Rattle.sheets.proofs.AutomatonLoops.{block_last, block-left, block-fails, block-passes}
 use Rattle.sheets.proofs.automata.automaton_total.Invariants.{test}
@@ -32,7 +31,7 @@ returns-then-not-all_total c =
     let at = c.loop-states in
     let R = c.args.r.now in
     let v = c.variables-v.result in
-    sym (at.invariant ∙ block-fails (test R v) at.left at.first (next_state R) c.states_from-all.result c.states_from-all.ensures c.if-n-le-CHAINED_MOST.false c.all_total-in-loop-states.ensures (not-true _ c.if-not-all_total.true-raw))
+    sym (at.invariant ∙ block-fails (test R v) at.left at.first (next_state R) c.states_from-all.result c.states_from-all.ensures c.if-n-le-CHAINED_MOST.false c.all_total-in-loop-states.ensures c.if-not-all_total.true)
 
 pub overflow_sub-left : goal.overflow_sub-left
 overflow_sub-left c =
@@ -53,4 +52,4 @@ loop-states-preserved c =
     let at = c.loop-states in
     let R = c.args.r.now in
     let v = c.variables-v.result in
-    at.invariant ∙ block-passes (test R v) at.left at.first (next_state R) c.states_from-all.result c.states_from-all.ensures c.if-n-le-CHAINED_MOST.false c.all_total-in-loop-states.ensures (not-false _ c.if-not-all_total.false-raw) c.state_word-first.ensures
+    at.invariant ∙ block-passes (test R v) at.left at.first (next_state R) c.states_from-all.result c.states_from-all.ensures c.if-n-le-CHAINED_MOST.false c.all_total-in-loop-states.ensures c.if-not-all_total.false c.state_word-first.ensures

@@ -1,5 +1,6 @@
 -- `total` meets its contract. The invariant: under each valuation passed exactly one transition is taken. The measure is the number of those left.
-use mathlib.Core.Path.{◌∙◌}
+use mathlib.Core.Bool.{not}
+use mathlib.Core.Path.{ap, ◌∙◌}
 use native.Mathlib.Omega.{arith}
 use Rattle.sheets.specs.Format.{word_bits}
 use Rattle.sheets.specs.Rules.{total, transitions_of}
@@ -18,14 +19,14 @@ returns-then-not-bit c =
     let a = c.args in
     let w = c.loop-w.w in
     let one = served-once a.r.now (transitions_of a.r.now a.q) w (c.bit.ensures ∙ c.leaving-out.ensures.some w) (c.bit-in-loop-w.ensures ∙ c.leaving-out.ensures.several w) in
-    test-stops c.loop-w.invariant c.loop-w-test.true one c.if-not-bit.true-raw
+    test-stops c.loop-w.invariant c.loop-w-test.true one (ap not c.if-not-bit.true)
 
 pub loop-w-preserved : goal.loop-w-preserved
 loop-w-preserved c =
     let a = c.args in
     let w = c.loop-w.w in
     let one = served-once a.r.now (transitions_of a.r.now a.q) w (c.bit.ensures ∙ c.leaving-out.ensures.some w) (c.bit-in-loop-w.ensures ∙ c.leaving-out.ensures.several w) in
-    test-goes c.loop-w.invariant c.loop-w-test.true one c.if-not-bit.false-raw
+    test-goes c.loop-w.invariant c.loop-w-test.true one (ap not c.if-not-bit.false)
 
 pub returns : goal.returns
 unfolding total

@@ -1,6 +1,5 @@
 -- `rule_refusal` meets its contract, by the parts of the table: the records, the automata, the lines.
 use mathlib.Core.Path.{sym, subst⁻¹, ◌∙◌}
-use borrow.Author.Tests.{not-false}
 use lib.Dec.{T}
 use Rattle.sheets.specs.Rules.{lent, record_questions, automata_questions, rule_questions}
 use Rattle.sheets.proofs.Questions.{all_yes, asked}
@@ -26,7 +25,7 @@ unfolding rule_questions automata_questions
 returns-then-not-q13 c = search (asked, records-numbered)
 
 pub q14-requires : goal.q14-requires
-q14-requires c = subst⁻¹ T (sym c.q12.ensures ∙ not-false _ c.if-not-q12.false-raw) tt
+q14-requires c = subst⁻¹ T (sym c.q12.ensures ∙ c.if-not-q12.false) tt
 
 pub returns-then-not-q14 : goal.returns-then-not-q14
 unfolding rule_questions automata_questions

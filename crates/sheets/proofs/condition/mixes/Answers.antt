@@ -1,11 +1,10 @@
 -- `mixes` meets its contract: whether the set tells the two apart, and then whether each is reached from the other.
 use mathlib.Core.Bool.{not, ◌&&◌}
-use borrow.Author.Tests.{not-true}
 use Rattle.sheets.proofs.condition.mixes.Goals as goal
 
 pub returns-then-not-bit : goal.returns-then-not-bit
 returns-then-not-bit c =
-    rw (rw (c.bit.ensures, c.bit-2.ensures) at (not-true (c.bit.result && not c.bit-2.result) c.if-not-bit.true-raw))
+    rw (rw (c.bit.ensures, c.bit-2.ensures) at c.if-not-bit.true)
 
 pub returns : goal.returns
 returns c =
