@@ -205,7 +205,8 @@ pub fn compare(m1: &[u16], m2: &[u16], space: &mut [u16]) -> Answer
     }
     let p = refine(m1, m2);
     let c = one_sided(m1, m2, &p.first, &p.second, p.count);
-    if c == 0 {
+    let none = c == 0;
+    if none {
         return Answer::Equal;
     }
     let line = p.line[(c - 1) as usize];

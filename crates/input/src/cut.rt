@@ -30,7 +30,8 @@ pub fn first_end(words: &[u16]) -> usize
         return words.len();
     }
     let end = header_end(words);
-    if end <= words.len() { end } else { words.len() }
+    let reached = end <= words.len();
+    if reached { end } else { words.len() }
 }
 
 // Puts the words of the bytes at the head of `words`, and answers where the two sheets stand; bytes that are refused leave every word

@@ -48,7 +48,8 @@ pub fn text_of_bytes(sheet: &[u8], text: &mut [u8]) -> Turned
     if limits::SHEETS_BYTES < sheet.len() {
         return Turned::Long;
     }
-    if sheet.len() % 2 == 1 {
+    let odd = sheet.len() % 2 == 1;
+    if odd {
         return Turned::Odd;
     }
     let mut words = [0u16; limits::SHEETS_WORDS];

@@ -36,7 +36,8 @@ fn number_of(bytes: &[u8]) -> Argument
         if byte < 48 {
             return Argument::Other;
         }
-        if 57 < byte {
+        let above = 57 < byte;
+        if above {
             return Argument::Other;
         }
         let more = 10 * value + (byte - 48);

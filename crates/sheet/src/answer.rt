@@ -80,7 +80,8 @@ fn check_text(sort: Sort, text: &[u8]) -> Answer
 fn answer_to(sort: Sort, text: bool, input: &[u8]) -> Answer
     ensures { Checked sort text input.now result }
 {
-    if text {
+    let as_text = text;
+    if as_text {
         return check_text(sort, input);
     }
     let check = check_bytes(sort, input);

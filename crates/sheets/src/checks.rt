@@ -66,7 +66,8 @@ pub fn check_machine(m: &[u16]) -> Check
     ensures { Answered (Machine.machine_questions 1 m.now) result }
 {
     let q = machine::machine_refusal(m);
-    if q == 0 {
+    let accepted = q == 0;
+    if accepted {
         return Check::Accepted;
     }
     Check::Refused {
@@ -80,7 +81,8 @@ pub fn check_rules(r: &[u16]) -> Check
     ensures { Answered (Rules.rule_questions Rules.lent r.now) result }
 {
     let question = rule_refusal(r);
-    if question == 0 {
+    let accepted = question == 0;
+    if accepted {
         return Check::Accepted;
     }
     Check::Refused {

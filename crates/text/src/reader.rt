@@ -105,7 +105,8 @@ fn in_gap(room: usize, at: Place, byte: u8) -> Moved
             room: room,
         },
         Sort::Digit { value } => {
-            if room == 0 {
+            let full = room == 0;
+            if full {
                 Moved {
                     state: State::Stopped {
                         kind: Kind::NoRoom,
@@ -145,7 +146,8 @@ fn in_number(from: Place, value: u16, room: usize, at: Place, byte: u8) -> Moved
         },
         Sort::Digit { value: digit } => {
             let longer = 10 * (value as u32) + digit as u32;
-            if longer <= 65535 {
+            let fits = longer <= 65535;
+            if fits {
                 Moved {
                     state: State::Number {
                         from: from,

@@ -1,9 +1,7 @@
 -- `compare` meets its contract: the first "no" of the table refuses; else the refinement answers, by the start nodes in its blocks.
-use mathlib.Core.Path.{◌≡◌, sym, ◌∙◌}
+use mathlib.Core.Path.{sym, ◌∙◌}
 use mathlib.Core.Logic.{inl}
 use native.Mathlib.Omega.{arith}
-use lib.ListN.{length}
-use Rattle.comparison.specs.inner.Sizes.{written_space}
 use Rattle.comparison.specs.inner.Bounded.{Bounded}
 use Rattle.comparison.proofs.CompareAnswers.{refused, known, small, fits, equal-answer, listed, unequal-answer}
 use borrow.Author.Rules.{rules}
@@ -31,13 +29,13 @@ one_sided-c-requires c =
     let f = fits a.m1.now a.m2.now a.space.now e c.refine-p.result c.refine-p.ensures in
     (k.0, k.1, omega arith)
 
-pub returns-then-c-eq0 : goal.returns-then-c-eq0
-returns-then-c-eq0 c =
+pub returns-then-none : goal.returns-then-none
+returns-then-none c =
     let a = c.args in
     let e = sym c.if-refusal-ne0.false ∙ c.compare_refusal-refusal.ensures.0 in
     let r = c.refine-p in
     let s = c.one_sided-c in
-    equal-answer a.m1.now a.m2.now a.space.now e r.result r.ensures s.result s.ensures c.if-c-eq0.true
+    equal-answer a.m1.now a.m2.now a.space.now e r.result r.ensures s.result s.ensures c.if-none.true
 
 pub bounds-p-c : goal.bounds-p-c
 bounds-p-c c =
@@ -53,7 +51,7 @@ write_not-requires c =
     let e = sym c.if-refusal-ne0.false ∙ c.compare_refusal-refusal.ensures.0 in
     let r = c.refine-p in
     let f = fits a.m1.now a.m2.now a.space.now e r.result r.ensures in
-    (f.2, (let h : length c.refine-p.result.words ≡ written_space = search rules in h))
+    (f.2, search rules)
 
 pub overflow_add-n : goal.overflow_add-n
 overflow_add-n c =
@@ -70,7 +68,7 @@ put_sheet-requires c =
     let r = c.refine-p in
     let s = c.one_sided-c in
     let f = fits a.m1.now a.m2.now a.space.now e r.result r.ensures in
-    (omega (arith, f.1), omega arith, omega (arith, f.2), listed a.m1.now a.m2.now a.space.now e r.result r.ensures s.result s.ensures c.if-c-eq0.false _ ((let h : length c.refine-p.result.words ≡ written_space = search rules in h)) c.write_not.ensures)
+    (omega (arith, f.1), omega arith, omega (arith, f.2), listed a.m1.now a.m2.now a.space.now e r.result r.ensures s.result s.ensures c.if-none.false _ (search rules) c.write_not.ensures)
 
 pub returns : goal.returns
 returns c =
@@ -78,4 +76,4 @@ returns c =
     let e = sym c.if-refusal-ne0.false ∙ c.compare_refusal-refusal.ensures.0 in
     let r = c.refine-p in
     let s = c.one_sided-c in
-    unequal-answer a.m1.now a.m2.now a.space.now e r.result r.ensures s.result s.ensures c.if-c-eq0.false _ ((let h : length c.refine-p.result.words ≡ written_space = search rules in h)) c.write_not.ensures _ c.put_sheet.ensures
+    unequal-answer a.m1.now a.m2.now a.space.now e r.result r.ensures s.result s.ensures c.if-none.false _ (search rules) c.write_not.ensures _ c.put_sheet.ensures

@@ -5,7 +5,7 @@ use native.Mathlib.Omega.{arith}
 use mathlib.Core.List.{[]}
 use Rattle.truth.specs.Passed.{nodes_most}
 use Rattle.truth.specs.inner.Rows.{row_has}
-use Rattle.comparison.specs.inner.Tables.{State, state, Room}
+use Rattle.comparison.specs.inner.Tables.{State, state}
 use Rattle.comparison.proofs.StagedSplits.{blocks-fit}
 use Rattle.comparison.proofs.DividingBlocks.{dividing-none, dividing-room, dividing-more, dividing-end}
 use Rattle.comparison.proofs.refine.divide.Goals as goal
@@ -21,10 +21,12 @@ pub loop-b-init : goal.loop-b-init
 loop-b-init c M₁ M₂ s = let a = c.args in dividing-none M₁ M₂ (entry c) a.p (row_has a.x1) (row_has a.x2) a.c s
 
 pub split_block-so_far-requires : goal.split_block-so_far-requires
-split_block-so_far-requires c = (let h : Room ((state c.loop-b.first c.loop-b.second c.loop-b.line c.loop-b.words c.loop-b.so_far)) c.loop-b.b = let a = c.args in
+split_block-so_far-requires c =
+    let a = c.args in
     let w = c.requires in
-    dividing-room w.M₁ w.M₂ (entry (search)) a.p (row_has a.x1) (row_has a.x2) ((state c.loop-b.first c.loop-b.second c.loop-b.line c.loop-b.words c.loop-b.so_far)) c.loop-b.b
-    (c.loop-b.invariant w.M₁ w.M₂ w.starts) c.loop-b-test.true in h)
+    let at = c.loop-b in
+    dividing-room w.M₁ w.M₂ (entry (search)) a.p (row_has a.x1) (row_has a.x2) (state at.first at.second at.line at.words at.so_far) at.b
+    (at.invariant w.M₁ w.M₂ w.starts) c.loop-b-test.true
 
 pub overflow_add-b : goal.overflow_add-b
 overflow_add-b c = omega (arith, few (search))
@@ -38,12 +40,14 @@ loop-b-smaller c = omega (arith, (c.next_split-b.ensures [] []).low)
 pub loop-b-preserved : goal.loop-b-preserved
 loop-b-preserved c M₁ M₂ s =
     let a = c.args in
+    let at = c.loop-b in
     let l = c.split_block-so_far.new in
     let later = state l.first l.second l.line l.words c.split_block-so_far.result in
-    dividing-more M₁ M₂ (entry (search)) a.p (row_has a.x1) (row_has a.x2) ((state c.loop-b.first c.loop-b.second c.loop-b.line c.loop-b.words c.loop-b.so_far)) c.loop-b.b (c.loop-b.invariant M₁ M₂ s)
+    dividing-more M₁ M₂ (entry (search)) a.p (row_has a.x1) (row_has a.x2) (state at.first at.second at.line at.words at.so_far) at.b (at.invariant M₁ M₂ s)
     c.loop-b-test.true later c.next_split-b.result c.split_block-so_far.ensures (c.next_split-b.ensures M₁ M₂)
 
 pub returns : goal.returns
 returns c M₁ M₂ s =
     let a = c.args in
-    dividing-end M₁ M₂ (entry (search)) a.p (row_has a.x1) (row_has a.x2) ((state c.loop-b.first c.loop-b.second c.loop-b.line c.loop-b.words c.loop-b.so_far)) c.loop-b.b (c.loop-b.invariant M₁ M₂ s) c.loop-b-test.false
+    let at = c.loop-b in
+    dividing-end M₁ M₂ (entry (search)) a.p (row_has a.x1) (row_has a.x2) (state at.first at.second at.line at.words at.so_far) at.b (at.invariant M₁ M₂ s) c.loop-b-test.false

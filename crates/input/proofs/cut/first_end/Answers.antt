@@ -9,14 +9,14 @@ pub returns-then-not-q1 : goal.returns-then-not-q1
 returns-then-not-q1 c =
     record { value = sym (end-without-header c.args.words.now (sym c.q1.ensures ∙ c.if-not-q1.true)); within = omega arith }
 
-pub returns-then-end-words : goal.returns-then-end-words
-returns-then-end-words c =
+pub returns-then-reached : goal.returns-then-reached
+returns-then-reached c =
     let words = c.args.words.now in
     let e : c.header_end-end.result ≡ header_end words = c.header_end-end.ensures in
     record { value = e ∙ sym (end-by-header words (sym c.q1.ensures ∙ c.if-not-q1.false) (omega arith)); within = omega arith }
 
-pub returns-else-end-words : goal.returns-else-end-words
-returns-else-end-words c =
+pub returns-else-reached : goal.returns-else-reached
+returns-else-reached c =
     let words = c.args.words.now in
     let e : c.header_end-end.result ≡ header_end words = c.header_end-end.ensures in
     record { value = sym (end-not-reached words (sym c.q1.ensures ∙ c.if-not-q1.false) (omega arith)); within = omega arith }

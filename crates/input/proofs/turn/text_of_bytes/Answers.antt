@@ -15,10 +15,10 @@ returns-then-sheet-gt-SHEETS_BYTES c =
     let both = sheet-long c.args.sheet.now c.args.text.now c.if-sheet-gt-SHEETS_BYTES.true in
     record { answer = both.0; left = both.1 }
 
-pub returns-then-sheet-eq1 : goal.returns-then-sheet-eq1
-returns-then-sheet-eq1 c =
+pub returns-then-odd : goal.returns-then-odd
+returns-then-odd c =
     let start = c.args in
-    let both = sheet-odd start.sheet.now start.text.now c.if-sheet-gt-SHEETS_BYTES.false c.if-sheet-eq1.true in
+    let both = sheet-odd start.sheet.now start.text.now c.if-sheet-gt-SHEETS_BYTES.false c.if-odd.true in
     record { answer = both.0; left = both.1 }
 
 pub slice_bounds-text_of_words-end : goal.slice_bounds-text_of_words-end
@@ -36,7 +36,7 @@ returns-in-Text c =
     let short = c.if-sheet-gt-SHEETS_BYTES.false in
     let all = words-all start.sheet.now _ got.new.words got.result (omega arith) got.ensures.counted got.ensures.written in
     let told = rw c.in-Text.is at put.ensures.answer in
-    let both = text-done start.sheet.now start.text.now short c.if-sheet-eq1.false _ _ _ all told put.ensures.left in
+    let both = text-done start.sheet.now start.text.now short c.if-odd.false _ _ _ all told put.ensures.left in
     record { answer = both.0; left = both.1 }
 
 pub returns-in-NoRoom : goal.returns-in-NoRoom
@@ -48,5 +48,5 @@ returns-in-NoRoom c =
     let short = c.if-sheet-gt-SHEETS_BYTES.false in
     let all = words-all start.sheet.now _ got.new.words got.result (omega arith) got.ensures.counted got.ensures.written in
     let told = rw c.in-NoRoom.is at put.ensures.answer in
-    let both = text-done start.sheet.now start.text.now short c.if-sheet-eq1.false _ _ _ all told put.ensures.left in
+    let both = text-done start.sheet.now start.text.now short c.if-odd.false _ _ _ all told put.ensures.left in
     record { answer = both.0; left = both.1 }

@@ -16,8 +16,8 @@ returns-then-byte-lt48 c =
     let digit = c.wide-byte in
     too-low bytes c.loop-i.value c.loop-i.i c.loop-i.invariant.2 (search rules) digit.result digit.ensures.0 c.if-byte-lt48.true
 
-pub returns-then-byte-gt57 : goal.returns-then-byte-gt57
-returns-then-byte-gt57 c =
+pub returns-then-above : goal.returns-then-above
+returns-then-above c =
     let bytes = c.args.bytes.now in
     let digit = c.wide-byte in
     too-high bytes c.loop-i.value c.loop-i.i c.loop-i.invariant.2 (search rules) digit.result digit.ensures.0 c.if-byte-lt48.false (search rules)
@@ -26,13 +26,13 @@ pub returns-then-more-gt65535 : goal.returns-then-more-gt65535
 returns-then-more-gt65535 c =
     let bytes = c.args.bytes.now in
     let digit = c.wide-byte in
-    too_large bytes c.loop-i.value c.loop-i.i c.loop-i.invariant.2 (search rules) digit.result digit.ensures.0 c.if-byte-lt48.false c.if-byte-gt57.false c.if-more-gt65535.true
+    too_large bytes c.loop-i.value c.loop-i.i c.loop-i.invariant.2 (search rules) digit.result digit.ensures.0 c.if-byte-lt48.false c.if-above.false c.if-more-gt65535.true
 
 pub loop-i-preserved : goal.loop-i-preserved
 loop-i-preserved c =
     let bytes = c.args.bytes.now in
     let digit = c.wide-byte in
-    let more = one_more bytes c.loop-i.value c.loop-i.i c.loop-i.invariant.2 (search rules) digit.result digit.ensures.0 c.if-byte-lt48.false c.if-byte-gt57.false c.if-more-gt65535.false in
+    let more = one_more bytes c.loop-i.value c.loop-i.i c.loop-i.invariant.2 (search rules) digit.result digit.ensures.0 c.if-byte-lt48.false c.if-above.false c.if-more-gt65535.false in
     (search rules, search rules, more)
 
 pub returns : goal.returns

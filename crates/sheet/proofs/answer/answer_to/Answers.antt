@@ -2,8 +2,8 @@
 use Rattle.sheet.specs.Program as Program
 use Rattle.sheet.proofs.answer.answer_to.Goals as goal
 
-pub returns-then-text : goal.returns-then-text
-returns-then-text c = rw c.if-text.true (Program.as_text c.check_text.ensures)
+pub returns-then-as_text : goal.returns-then-as_text
+returns-then-as_text c = rw c.if-as_text.true (Program.as_text c.check_text.ensures)
 
 pub returns : goal.returns
-returns c = rw c.if-text.false (Program.as_bytes c.check_bytes-check.ensures)
+returns c = rw c.if-as_text.false (Program.as_bytes c.check_bytes-check.ensures)

@@ -4,14 +4,14 @@ use Rattle.sheets.specs.Rules.{lent, record_questions, automata_questions, rule_
 use Rattle.sheets.proofs.CheckAnswers.{accepts, refuses}
 use Rattle.sheets.proofs.checks.check_rules.Goals as goal
 
-pub returns-then-question-eq0 : goal.returns-then-question-eq0
+pub returns-then-accepted : goal.returns-then-accepted
 unfolding record_questions automata_questions rule_questions
-returns-then-question-eq0 c =
+returns-then-accepted c =
     accepts 0 (rule_questions lent c.args.r.now) (omega arith) (omega arith)
-    _ c.rule_refusal-question.ensures c.if-question-eq0.true
+    _ c.rule_refusal-question.ensures c.if-accepted.true
 
 pub returns : goal.returns
 unfolding record_questions automata_questions rule_questions
 returns c =
     refuses 0 (rule_questions lent c.args.r.now) (omega arith) (omega arith)
-    _ c.rule_refusal-question.ensures c.if-question-eq0.false
+    _ c.rule_refusal-question.ensures c.if-accepted.false

@@ -9,17 +9,17 @@ returns-in-Blank c =
     let sort = sym c.sort_of-sort.ensures ∙ c.in-Blank.is in
     gap-blank start.room start.at start.byte sort
 
-pub returns-then-room-eq0 : goal.returns-then-room-eq0
-returns-then-room-eq0 c =
+pub returns-then-full : goal.returns-then-full
+returns-then-full c =
     let start = c.args in
     let sort = sym c.sort_of-sort.ensures ∙ c.in-Digit.is in
-    gap-full start.room start.at start.byte _ sort c.if-room-eq0.true
+    gap-full start.room start.at start.byte _ sort c.if-full.true
 
-pub returns-else-room-eq0 : goal.returns-else-room-eq0
-returns-else-room-eq0 c =
+pub returns-else-full : goal.returns-else-full
+returns-else-full c =
     let start = c.args in
     let sort = sym c.sort_of-sort.ensures ∙ c.in-Digit.is in
-    gap-digit start.room start.at start.byte _ sort c.if-room-eq0.false
+    gap-digit start.room start.at start.byte _ sort c.if-full.false
 
 pub returns-in-Other : goal.returns-in-Other
 returns-in-Other c =

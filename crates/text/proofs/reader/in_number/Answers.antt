@@ -9,17 +9,17 @@ returns-in-Blank c =
     let sort = sym c.sort_of-sort.ensures ∙ c.in-Blank.is in
     number-blank start.room start.at start.byte start.from start.value sort
 
-pub returns-then-longer-le65535 : goal.returns-then-longer-le65535
-returns-then-longer-le65535 c =
+pub returns-then-fits : goal.returns-then-fits
+returns-then-fits c =
     let start = c.args in
     let sort = sym c.sort_of-sort.ensures ∙ c.in-Digit.is in
-    number-digit start.room start.at start.byte start.from start.value _ sort c.if-longer-le65535.true
+    number-digit start.room start.at start.byte start.from start.value _ sort c.if-fits.true
 
-pub returns-else-longer-le65535 : goal.returns-else-longer-le65535
-returns-else-longer-le65535 c =
+pub returns-else-fits : goal.returns-else-fits
+returns-else-fits c =
     let start = c.args in
     let sort = sym c.sort_of-sort.ensures ∙ c.in-Digit.is in
-    number-above start.room start.at start.byte start.from start.value _ sort c.if-longer-le65535.false
+    number-above start.room start.at start.byte start.from start.value _ sort c.if-fits.false
 
 pub returns-in-Other : goal.returns-in-Other
 returns-in-Other c =

@@ -8,7 +8,7 @@ use lib.Dec.{T}
 use Rattle.sheets.specs.Words.{each}
 use Rattle.truth.specs.Sizes.{members_most}
 use Rattle.truth.specs.inner.Rows.{row_has, rows_has}
-use Rattle.truth.specs.inner.Pairs.{Before, Cleared}
+use Rattle.truth.specs.inner.Pairs.{Before}
 use Rattle.truth.proofs.rows.RowLaws.{held_in, none_passes}
 use Rattle.truth.proofs.tables.TableLaws.{emptied}
 use Rattle.truth.proofs.trimming.TrimGone.{trimmed-idle, trimmed-row}
@@ -42,12 +42,12 @@ load-requires c = omega (arith, c.requires.0, c.requires.1)
 pub trim_into-requires : goal.trim_into-requires
 trim_into-requires c =
     let pre = c.requires in
-    let on = c.load.ensures in (
+    let on = c.load.ensures in
+    let cleared = emptied c.args.gone.now _ c.args.p2 _ _ (omega (arith, pre.0, pre.1, pre.3)) c.store.ensures c.empty.ensures in (
       pre.0,
       pre.1,
       pre.2,
-      ((let h : Cleared c.args.p2 c.args.gone.now c.store.new.rows = let pre = c.requires in
-          emptied c.args.gone.now _ c.args.p2 _ _ (omega (arith, pre.0, pre.1, pre.3)) c.store.ensures c.empty.ensures in h)).size ∙ pre.3,
+      cleared.size ∙ pre.3,
       λ u t. pre.4.few _ u (rw (on.0, on.1) at t),
       pre.5,
     )
@@ -62,8 +62,8 @@ returns c =
     let some : each members_most (λ s. not (rows_has a.gone.now a.p2 s)) ≡ false =
     rw (from.0, from.1) at (sym c.is_empty.ensures ∙ c.if-is_empty.false) in
     let m = c.trim_into.ensures in
-    let known = c.requires in record {
-      trimmed = trimmed-row a.back.now a.gone.now a.p2 (row_has pre.result) ((let h : Cleared c.args.p2 c.args.gone.now c.store.new.rows = let pre = c.requires in
-          emptied c.args.gone.now _ c.args.p2 _ _ (omega (arith, pre.0, pre.1, pre.3)) c.store.ensures c.empty.ensures in h)) ahead m.moved a.into.now known.4 (rw (on.0, on.1) at m.owing) known.0 some;
+    let known = c.requires in
+    let cleared = emptied a.gone.now _ a.p2 _ _ (omega (arith, known.0, known.1, known.3)) c.store.ensures c.empty.ensures in record {
+      trimmed = trimmed-row a.back.now a.gone.now a.p2 (row_has pre.result) cleared ahead m.moved a.into.now known.4 (rw (on.0, on.1) at m.owing) known.0 some;
       none = λ y. absurd (true≢false y);
     }
