@@ -22,7 +22,7 @@ trap 'rm -rf "$work"' EXIT
 bytes_of() { # FILE OUT
   case "$1" in
     *.txt)
-      "$here/target/bin/sheet" bytes < "$1" > "$2" 2> "$work/fault"
+      "$here/target/bin/sheet" bytes < "$1" > "$2" 2> "$work/fault" || true
       if [ -s "$work/fault" ]; then
         echo "$1: $(cat "$work/fault")" >&2
         exit 1

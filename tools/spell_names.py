@@ -3,8 +3,8 @@
 
 usage: python3 tools/spell_names.py [FOLDER]
 
-FOLDER is a checkout's top (default: the one that holds this script). It was run once, right after the kit's port.py, and the
-names that it gave are listed by `--list`. Types and modules begin with a capital and keep it; so does each part behind a dash that
+FOLDER is a checkout's top (default: the one that holds this script). It was run once, right after the kit's port.py; it prints each
+name that it changes, and each file in which two names fall together. Types and modules begin with a capital and keep it; so does each part behind a dash that
 begins with one. In .rt files only what stands outside string literals is touched: there such words stand in clauses, ghost imports
 and comments alone, since functions of src/ are in snake case already. Names of the library that hold a capital behind an underscore
 (`uint_Makes`) are not of this form and stay.

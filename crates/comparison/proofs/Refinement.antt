@@ -141,11 +141,11 @@ module _ (a : ℕ) (M₁ M₂ : List ℕ) (ok₁ : machine_refusal M₁ ≡ 0) (
       → Inhabited M₁ M₂ m₁' m₂' c → Inhabited M₁ M₂ m₁' m₂' count
       → Refinement a M₁ M₂ (ls ++ split (length ls) (line c) p) (suc count) line' m₁' m₂'
   unfolding LinesIn
-  splits c p h lp hp x₁ x₂ e₁ e₂ line' m₁' m₂' lined parted₁ parted₂ some_in Some-out = record {
+  splits c p h lp hp x₁ x₂ e₁ e₂ line' m₁' m₂' lined parted₁ parted₂ some_in some_out = record {
     down = split-down a ls r.down (line c) p (r.lines c h).0 (r.lines c h).1 lp hp;
     lines = split-lines a ls r.down count c p line line' h lp hp r.lines lined;
     first = split-refined a ls r.down count c p line line' h lp hp r.lines lined M₁ ok₁ x₁ e₁ m₁ m₁' parted₁ r.first;
     second = split-refined a ls r.down count c p line line' h lp hp r.lines lined M₂ ok₂ x₂ e₂ m₂ m₂' parted₂ r.second;
-    inhabited = each-block count c (Inhabited M₁ M₂ m₁' m₂') Some-out some_in (λ d l f.
+    inhabited = each-block count c (Inhabited M₁ M₂ m₁' m₂') some_out some_in (λ d l f.
         still-inhabited M₁ M₂ m₁ m₂ m₁' m₂' d (λ s. parted₁.others d s l f) (λ t. parted₂.others d t l f) (r.inhabited d l));
   }

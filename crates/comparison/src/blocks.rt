@@ -11,7 +11,7 @@ use truth::rows::Row;
 use truth::tables::{load, store};
 
 // How far refinement has come: blocks and written lines.
-#[derive(Drop)]
+#[derive(Clone, Copy)]
 pub struct Stand {
     pub count: u16,
     pub lines: u16,

@@ -21,7 +21,7 @@ use truth::tables::load;
 use truth::{header, structure};
 
 // The answer: refused by a question, with the number of the machine sheet for questions 1 to 6; equal; or unequal.
-#[derive(Drop)]
+#[derive(Clone, Copy)]
 pub enum Answer {
     Refused { question: u16, sheet: u16 },
     Equal,
@@ -66,7 +66,7 @@ const NEXT: [u16; sizes::NEXT_HEAD] = [
 ];
 
 // The first question of a comparison that says no, and the machine sheet that it is put to; question 0 where none says no.
-#[derive(Drop)]
+#[derive(Clone, Copy)]
 pub struct FirstNo {
     pub question: u16,
     pub sheet: u16,

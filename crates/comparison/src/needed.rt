@@ -11,7 +11,7 @@ use truth::header;
 const PLACES: u16 = sizes::LINE_PLACES as u16;
 
 // A written line, taken apart.
-#[derive(Drop)]
+#[derive(Clone, Copy)]
 pub enum Line {
     Signal(u16),
     Not(u16),

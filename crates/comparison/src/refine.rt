@@ -20,7 +20,7 @@ use truth::{header, structure};
 
 // A refinement: row c of `first` and of `second` has the nodes of block c of each machine, `line` at c the line that is true there and
 // nowhere else, `words` the words of the lines.
-#[derive(Drop)]
+#[derive(Clone, Copy)]
 pub struct Partition {
     pub first: [u64; sizes::BLOCK_WORDS],
     pub second: [u64; sizes::BLOCK_WORDS],

@@ -13,7 +13,7 @@ use truth::structure::Tail;
 use truth::tables::load;
 
 // The signature of one node, and the other nodes of each machine.
-#[derive(Drop)]
+#[derive(Clone, Copy)]
 pub struct Lead {
     pub marks: Row,
     pub rest1: Row,

@@ -12,7 +12,7 @@ use input::{cut, limits};
 use sheets::{format, rules};
 
 // The verdict is one only where the answer is unequal; otherwise its node is 0.
-#[derive(Drop)]
+#[derive(Clone, Copy)]
 pub struct Explanation {
     pub answer: Answer,
     pub verdict: Verdict,

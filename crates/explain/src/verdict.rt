@@ -6,7 +6,7 @@ use sheets::{format, rules};
 use truth::{breaks, labelling, sizes, tables};
 
 // Whether it is the first machine that keeps a rule, or the second, and the first start node where the other breaks it.
-#[derive(Drop)]
+#[derive(Clone, Copy)]
 pub struct Verdict {
     pub first: bool,
     pub node: u16,

@@ -46,7 +46,8 @@ pub extern "C" fn toqshenay_label(
     exports::toqshenay_label(m, r, rows, sheet, kept, count, percent)
 }
 
-// Shows a path for a path line at a node: the nodes and the states of its pairs go to two lent lists. The numbers are `tell_path`'s.
+// Shows a path for a path line at a node: the nodes and the states of its pairs go to two lent lists. The question that refuses, and its
+// sheet, or 0; then the number of pairs, 0 where there is no path, and the place that the last pair goes back to.
 #[unsafe(no_mangle)]
 pub extern "C" fn toqshenay_path(
     m: &[u16],

@@ -7,7 +7,7 @@ use truth::labelling;
 use truth::labelling::Labelled;
 
 // Labelling's answer, and the numbers of nodes and lines for what is printed of it.
-#[derive(Drop)]
+#[derive(Clone, Copy)]
 pub struct Answer {
     pub labelled: Labelled,
     pub nodes: u16,

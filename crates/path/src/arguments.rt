@@ -3,14 +3,14 @@ ghost use Rattle.std.specs.Prelude.{◌≡◌, ◌<◌};
 ghost use Rattle.path.specs.Arguments.{argument_of, asked_of};
 
 // What an argument says: a number, or something else.
-#[derive(Drop)]
+#[derive(Clone, Copy)]
 pub enum Argument {
     Number { value: u16 },
     Other,
 }
 
 // What the arguments ask for: a path for a line at a node, or nothing that there is.
-#[derive(Drop)]
+#[derive(Clone, Copy)]
 pub enum Asked {
     Path { line: u16, node: u16 },
     Usage,

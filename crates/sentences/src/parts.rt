@@ -4,7 +4,7 @@ use sheets::lines::{Decoded, Line};
 use sheets::{format, lines};
 
 // A line as the comparison writes them; the one automaton is Next, which has one line.
-#[derive(Drop)]
+#[derive(Clone, Copy)]
 pub enum Says {
     Signal(u16),
     Not(u16),
@@ -38,7 +38,7 @@ pub const MARKS: usize = format::LINES;
 
 // The signals that are on and those that are off, bit i - 1 for signal i, and how many lines stay marked as parts. `room` is how many
 // more lines may be taken apart.
-#[derive(Drop)]
+#[derive(Clone, Copy)]
 pub struct Parts {
     pub on: u16,
     pub off: u16,

@@ -224,7 +224,7 @@ fn any_signals(
 
 // A part that is put: as a whole, or, where it is open, up to its colon; then line `line` with mark `mark` is what follows, in the same
 // line or set in one level more.
-#[derive(Drop)]
+#[derive(Clone, Copy)]
 struct Put {
     cursor: Cursor,
     open: bool,

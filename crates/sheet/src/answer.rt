@@ -12,7 +12,7 @@ use text::read;
 use text::read::{Kind, Place, Reading};
 
 // Which sheet is checked.
-#[derive(Drop)]
+#[derive(Clone, Copy)]
 pub enum Sort {
     Machine,
     Rules,
@@ -27,7 +27,7 @@ pub enum Answer {
 }
 
 // What is told: the answer, and its line for standard output, which is empty where the input is no sheet's text.
-#[derive(Drop)]
+#[derive(Clone, Copy)]
 pub struct Told {
     pub answer: Answer,
     pub line: Line,

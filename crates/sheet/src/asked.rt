@@ -5,7 +5,7 @@ ghost use Rattle.sheet.specs.Arguments.{bytes_word, text_word, same, check_of, a
 use crate::answer::Sort;
 
 // A text turned into bytes, bytes into a text, a sheet of a sort checked, given as a text or as bytes; or nothing that there is.
-#[derive(Drop)]
+#[derive(Clone, Copy)]
 pub enum Asked {
     Bytes,
     Text,

@@ -29,7 +29,7 @@ pub const FOURTH_OPERAND: u16 = format::OPERAND + 3;
 pub const FIFTH_OPERAND: u16 = format::OPERAND + 4;
 
 // An automaton with the lines of the variables that it may have; what stands past those that it has is 0.
-#[derive(Drop)]
+#[derive(Clone, Copy)]
 pub struct PathLine {
     pub automaton: u16,
     pub first: u16,
@@ -39,7 +39,7 @@ pub struct PathLine {
 }
 
 // A line by its operation: a signal, "not" and "or" of lines above it, "on some path A" and "on some path not A".
-#[derive(Drop)]
+#[derive(Clone, Copy)]
 pub enum Line {
     Signal(u16),
     Negation(u16),
@@ -48,7 +48,7 @@ pub enum Line {
     SomePathNot(PathLine),
 }
 
-#[derive(Drop)]
+#[derive(Clone, Copy)]
 pub enum Decoded {
     Formed(Line),
     Malformed,

@@ -13,7 +13,7 @@ pub const MASKS: usize = format::CHAINED * format::CHAINED;
 
 // An automaton by position, of which the first is the initial one: its variables, the number of its states, the set of the accepting
 // positions, the mask from position p to position q at CHAINED p + q, and by position the number that names a state in a list.
-#[derive(Drop)]
+#[derive(Clone, Copy)]
 pub struct ByPosition {
     pub variables: u16,
     pub count: u16,

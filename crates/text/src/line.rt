@@ -7,7 +7,7 @@ ghost use Rattle.text.specs.Lines.{Holds, Adds};
 pub const ROOM: usize = 20;
 
 // A line of `len` bytes, held at the head of the array; the places past it are 0.
-#[derive(Drop)]
+#[derive(Clone, Copy)]
 pub struct Line {
     pub bytes: [u8; ROOM],
     pub len: usize,

@@ -24,7 +24,7 @@ pub enum Kind {
 }
 
 // The answer to a text: how many words it has, or its first fault.
-#[derive(Drop)]
+#[derive(Clone, Copy)]
 pub enum Reading {
     Words { count: usize },
     Fault { kind: Kind, at: Place },

@@ -6,7 +6,7 @@ ghost use Rattle.text.specs.inner.Readers.{Moves, start_of, Steps};
 use crate::read::{Kind, Place};
 
 // What a byte is between comments.
-#[derive(Drop)]
+#[derive(Clone, Copy)]
 pub enum Sort {
     Blank,
     Digit { value: u8 },
@@ -22,14 +22,14 @@ pub enum State {
 }
 
 // The state after a byte, and the words that there is room for from there on.
-#[derive(Drop)]
+#[derive(Clone, Copy)]
 pub struct Moved {
     pub state: State,
     pub room: usize,
 }
 
 // A reader before a byte: whether the byte before it belongs to a comment, the byte's place, and what stands before it.
-#[derive(Drop)]
+#[derive(Clone, Copy)]
 pub struct Reader {
     pub comment: bool,
     pub at: Place,

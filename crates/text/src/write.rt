@@ -10,7 +10,7 @@ use crate::line::Line;
 pub const WORD_BYTES: usize = 6;
 
 // The answer: how many bytes are written, or that there is less space than is asked.
-#[derive(Drop)]
+#[derive(Clone, Copy)]
 pub enum Written {
     Text { count: usize },
     NoRoom,

@@ -17,7 +17,7 @@ use crate::tables::{line_row, set_line_row};
 use sheets::{checks, machine, rules};
 
 // The answer: refused by a question, with the number of the machine sheet for questions 1 to 6, or done.
-#[derive(Drop)]
+#[derive(Clone, Copy)]
 pub enum Labelled {
     Refused {
         question: u16,

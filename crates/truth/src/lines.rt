@@ -21,7 +21,7 @@ use sheets::position::ByPosition;
 use sheets::{format, machine, position};
 
 // The sets of pairs of a path line: the largest lasting set of good pairs, and the pairs that reach it.
-#[derive(Drop)]
+#[derive(Clone, Copy)]
 struct Sets {
     lasting: [u64; SET_WORDS],
     reached: [u64; SET_WORDS],
@@ -68,7 +68,7 @@ fn solve_with(
 }
 
 // The tables of a path line, solved.
-#[derive(Drop)]
+#[derive(Clone, Copy)]
 pub struct Solved {
     pub allow: [u64; TABLE_WORDS],
     pub lasting: [u64; SET_WORDS],

@@ -6,7 +6,7 @@ use crate::path::{Shown, length_of, make_within};
 
 // A place of the list; a state is given by its record number. C code has the same struct.
 #[repr(C)]
-#[derive(Drop)]
+#[derive(Clone, Copy)]
 pub struct Pair {
     pub node: u16,
     pub state: u16,

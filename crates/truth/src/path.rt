@@ -33,7 +33,7 @@ pub enum Shown {
 
 // A list that was made, and the answer; a node fits a byte. The answer stands between the arrays: so each of them is moved by itself,
 // and the stack needs no copy of the whole.
-#[derive(Drop)]
+#[derive(Clone, Copy)]
 pub struct Made {
     pub nodes: [u8; PAIRS],
     pub answer: Shown,

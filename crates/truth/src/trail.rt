@@ -13,7 +13,7 @@ use sheets::format::NODES;
 
 // The pairs of the list, by node and position, their number, and the place that the last one goes back to; places count from 1.
 // A node fits a byte. The number stands between the arrays, so that each of them is moved by itself.
-#[derive(Drop)]
+#[derive(Clone, Copy)]
 pub struct Trail {
     pub nodes: [u8; PAIRS],
     pub length: u16,
@@ -21,7 +21,7 @@ pub struct Trail {
     pub back: u16,
 }
 
-#[derive(Drop)]
+#[derive(Clone, Copy)]
 struct Pair {
     position: u16,
     node: u16,

@@ -1,5 +1,4 @@
 -- `mixes` meets its contract: whether the set tells the two apart, and then whether each is reached from the other.
-use mathlib.Core.Bool.{not, ◌&&◌}
 use Rattle.sheets.proofs.condition.mixes.Goals as goal
 
 pub returns-then-not-bit : goal.returns-then-not-bit
