@@ -1,9 +1,6 @@
 -- A machine sheet whose node records have a given form: a Kripke structure (document 002, definition 3), and the questions headed Machine.
 -- A plain machine sheet is `Machine`'s, which names these of the form `plain`.
-use Rattle.std.specs.Prelude.{ℕ, ◌-◌, ◌^◌, Bool, ◌&&◌, length, leb, ltb}
-use mathlib.Core.List.{List, [], ◌∷◌}
-use Rattle.std.proofs.Math.Bool.{not}
-use Rattle.std.proofs.Math.Dec.{eqb}
+use Rattle.std.specs.Prelude.{ℕ, ◌-◌, ◌^◌, List, [], ◌∷◌, Bool, not, ◌&&◌, length, leb, ltb, eqb}
 use Rattle.sheets.specs.Format.{nodes_most, signals_most, edges_most, machine_header, edge_words, edge_target_place, edge_next_place, edges_from, form_length}
 use Rattle.sheets.specs.Structures.{Kripke}
 use Rattle.sheets.specs.Words.{word, bit, within, each, any_of, chain, link}

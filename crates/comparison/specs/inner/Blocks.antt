@@ -1,8 +1,6 @@
 -- Blocks of nodes of two machines: what it is to cover the nodes, to be disjoint, to have a start node, to be split by a set; and the
 -- written line that is true at exactly the nodes of a set.
-use Rattle.std.specs.Prelude.{◌≡◌, ◌⊎◌, ◌↔◌, ℕ, ◌≤◌, ◌<◌, List, Bool}
-use Rattle.std.proofs.Math.Bool.{not}
-use Rattle.std.proofs.Math.Dec.{T}
+use Rattle.std.specs.Prelude.{◌≡◌, ◌⊎◌, ◌↔◌, ℕ, ◌≤◌, ◌<◌, List, Bool, not, T}
 use Rattle.truth.specs.Passed.{kripke, nodes, lifted, line_words}
 use Rattle.truth.specs.Truth.{Truths, TrueAt}
 use Rattle.comparison.specs.inner.Lines.{Entry, sheet}

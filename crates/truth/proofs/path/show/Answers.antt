@@ -1,6 +1,5 @@
 -- `show` meets its contract: the solved line's row says whether there is a path; where there is, the solved tables can be traced, and the
 -- trail, its positions named, is the list.
--- ---- places before the row is looked at
 use borrow.Author.Rules.{rules}
 use mathlib.Core.Path.{◌≡◌}
 use native.Mathlib.Omega.{arith}
