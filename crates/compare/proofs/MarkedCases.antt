@@ -1,6 +1,7 @@
 -- The marked cases (a) to (k) of document 01, as one table and one theorem. Of (a) to (d) it says what holds of the machines, and what
 -- comparison answers, in any space that is large enough; of (a) also what the program prints; of (e) and (f) where the lines are true, that
 -- the sheets are accepted, and what labelling answers: its rows, kept, count and percent.
+use Rattle.std.specs.Prelude.{Result, Ok}
 use mathlib.Core.Path.{◌≡◌, refl}
 use Prim.Native.Nat.{ℕ, ◌+◌, ◌≤◌}
 use native.Mathlib.Omega.{arith}
@@ -14,6 +15,7 @@ use Rattle.truth.specs.Labelling.{percent}
 use Rattle.truth.specs.Worked.{EvenSheet, OneState, Labels}
 use Rattle.truth.proofs.Passed.{machine-cases, rule-cases}
 use Rattle.truth.proofs.MarkedCases.{case-e-true, case-e-false, case-e, case-f-true, case-f-false, case-f-kept, case-f-broken, case-k}
+use Rattle.sheets.specs.declared.refusal.Refusal.{Refusal}
 use Rattle.comparison.specs.Comparison.{Equal}
 use Rattle.comparison.specs.CompareAnswers.{CompareAnswer}
 use Rattle.comparison.specs.declared.compare.Answer.{Answer}
@@ -23,17 +25,16 @@ use Rattle.comparison.proofs.Decides.{Decides, decides}
 use Rattle.comparison.proofs.MarkedMachines.{case-a, case-b, case-c, case-d}
 use Rattle.text.specs.declared.line.Line.{Line}
 use Rattle.input.specs.Bytes.{bytes_of}
-use Rattle.input.specs.Lines.{text}
 use Rattle.input.specs.Limits.{nodes_most, rule_space}
 use Rattle.compare.specs.Program.{line_bytes, Printed}
 use Rattle.compare.proofs.PrintedLines.{case-a as printed-a}
 
 abbrev Answers : (M₁ M₂ : List ℕ) → Answer → Type 0
 Answers M₁ M₂ x =
-    (before after : List ℕ) (answer : Answer) → rule_space (signals M₁) (nodes M₁ + nodes M₂) ≤ length before → CompareAnswer M₁ M₂ before after answer → answer ≡ x
+    (before after : List ℕ) (answer : Result Answer Refusal) → rule_space (signals M₁) (nodes M₁ + nodes M₂) ≤ length before → CompareAnswer M₁ M₂ before after answer → answer ≡ Ok x
 
 module _ (M₁ M₂ : List ℕ) (ok₁ : machine_refusal M₁ ≡ 0) (ok₂ : machine_refusal M₂ ≡ 0) (alike : signals M₁ ≡ signals M₂) (few : nodes M₁ + nodes M₂ ≤ nodes_most) where
-  decided : (before after : List ℕ) (answer : Answer) → rule_space (signals M₁) (nodes M₁ + nodes M₂) ≤ length before → CompareAnswer M₁ M₂ before after answer
+  decided : (before after : List ℕ) (answer : Result Answer Refusal) → rule_space (signals M₁) (nodes M₁ + nodes M₂) ≤ length before → CompareAnswer M₁ M₂ before after answer
       → Decides M₁ M₂ answer
   decided before after answer room =
       decides M₁ M₂ before after
@@ -48,7 +49,7 @@ module _ (M₁ M₂ : List ℕ) (ok₁ : machine_refusal M₁ ≡ 0) (ok₂ : ma
 -- ---- the table
 
 pub record Marked : Type 0 where
-  pub a : Equal M1 M2 × Answers M1 M2 says_equal × ((line : Line) → Printed (bytes_of (M1 ++ M2)) line → text line ≡ line_bytes says_equal)
+  pub a : Equal M1 M2 × Answers M1 M2 says_equal × ((line : Line) → Printed (bytes_of (M1 ++ M2)) line → line ≡ line_bytes (Ok says_equal))
   pub b : (Equal M1 M3 → ⊥) × Answers M1 M3 says_unequal
   pub c : (Equal M5 M6 → ⊥) × Answers M5 M6 says_unequal
   pub d : Equal M1 M1 × Answers M1 M1 says_equal

@@ -1,5 +1,6 @@
 -- What the program prints: for every input which line; `equal` exactly where the two sheets are accepted and equal; never a refusal by
 -- question 22; the two files of compare.sh; and the marked case (a).
+use Rattle.std.specs.Prelude.{Result, Ok, Err}
 use mathlib.Core.Path.{◌≡◌, refl, sym, ap, ◌∙◌}
 use mathlib.Core.Logic.{◌↔◌, by_cases}
 use Prim.Native.Nat.{ℕ, ◌+◌, ◌%◌, ◌≤◌}
@@ -11,19 +12,18 @@ use lib.ListN.{length}
 use Rattle.truth.specs.Passed.{M1, M2, Refusal, none as no_refusal, machine_questions, machine_refusal, nodes, signals, word}
 use Rattle.truth.proofs.Passed.{signals-sized, machine-cases}
 use Rattle.text.specs.declared.line.Line.{Line}
-use Rattle.text.proofs.HeldLines.{held-text}
 use Rattle.input.specs.Limits.{nodes_most, machines_bytes, rule_words}
 use Rattle.input.specs.Bytes.{readable, words_of, bytes_of}
 use Rattle.input.specs.Cut.{first_sheet, second_sheet}
-use Rattle.input.specs.Lines.{text, refused_line}
+use Rattle.input.specs.Lines.{refused_line}
+use Rattle.input.specs.declared.refused.Refused.{Refused}
 use Rattle.input.proofs.Passed.{first-has}
 use Rattle.input.proofs.Cuts.{by-reply}
 use Rattle.input.proofs.JoinedSheets.{joined-readable, joined-first, joined-second}
 use Rattle.input.proofs.WorkedInput.{input-cases}
 use Rattle.comparison.specs.Comparison as Comparison
-use Rattle.comparison.specs.CompareAnswers.{refusal_of}
 use Rattle.comparison.specs.declared.compare.Answer.{Answer}
-use Rattle.comparison.specs.declared.compare.Answer.TheVariants.{Refused, Equal, Unequal}
+use Rattle.comparison.specs.declared.compare.Answer.TheVariants.{Equal, Unequal}
 use Rattle.comparison.proofs.CompareTable.{by_first, by-second, by_last, by-signals, by-nodes, by-none, compared, refuses-nothing}
 use Rattle.comparison.proofs.MarkedMachines as Machines
 use Rattle.compare.specs.Program.{line_bytes, refusal, Compared, Printed}
@@ -59,32 +59,30 @@ module _ (M₁ M₂ : List ℕ) where
 -- ---- which answer
 
 module _ (M₁ M₂ : List ℕ) where
-  refused-answer : (answer : Answer) → Compared M₁ M₂ answer → 1 ≤ (refusal M₁ M₂).number
-      → answer ≡ Refused (refusal M₁ M₂).number (refusal M₁ M₂).sheet
-  unfolding refusal_of no_refusal
-  refused-answer (Refused q i) c some = rw (← c.asked)
-  refused-answer Equal c some = absurd (omega (arith, ap (λ (r : Refusal). r.number) c.asked))
-  refused-answer Unequal c some = absurd (omega (arith, ap (λ (r : Refusal). r.number) c.asked))
+  refused-line : (answer : Result Answer Refused) → Compared M₁ M₂ answer → 1 ≤ (refusal M₁ M₂).number
+      → line_bytes answer ≡ refused_line (refusal M₁ M₂).number (refusal M₁ M₂).sheet
+  unfolding line_bytes no_refusal
+  refused-line (Err why) c some = ap (λ (r : Refusal). refused_line r.number r.sheet) c.asked
+  refused-line (Ok Equal) c some = absurd (omega (arith, ap (λ (r : Refusal). r.number) c.asked))
+  refused-line (Ok Unequal) c some = absurd (omega (arith, ap (λ (r : Refusal). r.number) c.asked))
 
   module _ (accepted : (refusal M₁ M₂).number ≡ 0) where
-    equal-answer : (answer : Answer) → Compared M₁ M₂ answer → Comparison.Equal M₁ M₂ → answer ≡ Equal
-    unfolding refusal_of
-    equal-answer (Refused q i) c same = absurd (omega (arith, ap (λ (r : Refusal). r.number) c.asked, c.refused q i refl))
-    equal-answer Equal c same = refl
-    equal-answer Unequal c same = absurd (c.unequal refl same)
+    equal-answer : (answer : Result Answer Refused) → Compared M₁ M₂ answer → Comparison.Equal M₁ M₂ → answer ≡ Ok Equal
+    equal-answer (Err why) c same = absurd (omega (arith, ap (λ (r : Refusal). r.number) c.asked, c.refused why refl))
+    equal-answer (Ok Equal) c same = refl
+    equal-answer (Ok Unequal) c same = absurd (c.unequal refl same)
 
-    unequal-answer : (answer : Answer) → Compared M₁ M₂ answer → (Comparison.Equal M₁ M₂ → ⊥) → answer ≡ Unequal
-    unfolding refusal_of
-    unequal-answer (Refused q i) c other = absurd (omega (arith, ap (λ (r : Refusal). r.number) c.asked, c.refused q i refl))
-    unequal-answer Equal c other = absurd (other (c.equal refl))
-    unequal-answer Unequal c other = refl
+    unequal-answer : (answer : Result Answer Refused) → Compared M₁ M₂ answer → (Comparison.Equal M₁ M₂ → ⊥) → answer ≡ Ok Unequal
+    unequal-answer (Err why) c other = absurd (omega (arith, ap (λ (r : Refusal). r.number) c.asked, c.refused why refl))
+    unequal-answer (Ok Equal) c other = absurd (other (c.equal refl))
+    unequal-answer (Ok Unequal) c other = refl
 
 -- the line `equal` is that of no other answer
-is-equal : (answer : Answer) → line_bytes answer ≡ line_bytes Equal → answer ≡ Equal
+is-equal : (answer : Result Answer Refused) → line_bytes answer ≡ line_bytes (Ok Equal) → answer ≡ Ok Equal
 unfolding line_bytes refused_line
-is-equal (Refused q i) e = let z : ◌≡◌ {A = ℕ} 114 101 = cc in absurd (omega arith)
-is-equal Equal e = refl
-is-equal Unequal e = let z : ◌≡◌ {A = ℕ} 117 101 = cc in absurd (omega arith)
+is-equal (Err why) e = let z : ◌≡◌ {A = ℕ} 114 101 = cc in absurd (omega arith)
+is-equal (Ok Equal) e = refl
+is-equal (Ok Unequal) e = let z : ◌≡◌ {A = ℕ} 117 101 = cc in absurd (omega arith)
 
 -- ---- which line
 
@@ -97,13 +95,13 @@ module _ (bytes : List ℕ) where
 
   -- for every input one line
   pub record Lines (line : Line) : Type 0 where
-    pub unreadable : readable machines_bytes (length bytes) ≡ false → text line ≡ refused_line 0 0
+    pub unreadable : readable machines_bytes (length bytes) ≡ false → line ≡ refused_line 0 0
     pub refused : readable machines_bytes (length bytes) ≡ true → 1 ≤ (refusal first second).number
-        → text line ≡ refused_line (refusal first second).number (refusal first second).sheet
+        → line ≡ refused_line (refusal first second).number (refusal first second).sheet
     pub equal : readable machines_bytes (length bytes) ≡ true → (refusal first second).number ≡ 0 → Comparison.Equal first second
-        → text line ≡ line_bytes Equal
+        → line ≡ line_bytes (Ok Equal)
     pub unequal : readable machines_bytes (length bytes) ≡ true → (refusal first second).number ≡ 0 → (Comparison.Equal first second → ⊥)
-        → text line ≡ line_bytes Unequal
+        → line ≡ line_bytes (Ok Unequal)
 
   -- what `equal` says of the input
   pub record EqualSheets : Type 0 where
@@ -115,30 +113,30 @@ module _ (bytes : List ℕ) where
     pub equal : Comparison.Equal first second
 
   module _ (line : Line) (p : Printed bytes line) where
-    said : text line ≡ line_bytes p.answer
-    said = held-text line (line_bytes p.answer) p.held
+    said : line ≡ line_bytes p.answer
+    said = p.held
 
     -- end result
     pub which-line : Lines line
     unfolding line_bytes
     which-line = record {
       unreadable = λ e. said ∙ ap line_bytes (p.answered.refused e);
-      refused = λ ok some. said ∙ ap line_bytes (refused-answer first second p.answer (p.answered.answered ok) some);
+      refused = λ ok some. said ∙ refused-line first second p.answer (p.answered.answered ok) some;
       equal = λ ok none same. said ∙ ap line_bytes (equal-answer first second none p.answer (p.answered.answered ok) same);
       unequal = λ ok none other. said ∙ ap line_bytes (unequal-answer first second none p.answer (p.answered.answered ok) other);
     }
 
-    equal-sheets : readable machines_bytes (length bytes) ≡ true → Compared first second p.answer → p.answer ≡ Equal → EqualSheets
-    unfolding refusal refusal_of no_refusal
+    equal-sheets : readable machines_bytes (length bytes) ≡ true → Compared first second p.answer → p.answer ≡ Ok Equal → EqualSheets
+    unfolding refusal no_refusal
     equal-sheets ok c e =
         let none : 0 ≡ (refusal first second).number = ap (λ (r : Refusal). r.number) (rw e at c.asked) in
         let k = compared first second rule_words none in
         record { taken = ok; one = k.first; two = k.second; same = k.same; few = k.few; equal = c.equal e }
 
-    says-equal : p.answer ≡ Equal → EqualSheets
+    says-equal : p.answer ≡ Ok Equal → EqualSheets
     says-equal e = by-reply p.answered (λ other r. let z : ◌≡◌ {A = ℕ} 0 1 = cc in absurd (omega arith)) (λ ok c. equal-sheets ok c e)
 
-    equal-said : EqualSheets → text line ≡ line_bytes Equal
+    equal-said : EqualSheets → line ≡ line_bytes (Ok Equal)
     unfolding refusal
     equal-said s =
         let most = (signals-sized first s.one).1 in
@@ -147,7 +145,7 @@ module _ (bytes : List ℕ) where
         which-line.equal s.taken none s.equal
 
     -- end result
-    pub equal-exactly : (text line ≡ line_bytes Equal) ↔ EqualSheets
+    pub equal-exactly : (line ≡ line_bytes (Ok Equal)) ↔ EqualSheets
     equal-exactly = (λ e. says-equal (is-equal p.answer (sym said ∙ e)), equal-said)
 
 -- ---- two files, each of them an accepted machine sheet, one after the other: the line of the answer to the two; end result
@@ -155,7 +153,7 @@ module _ (bytes : List ℕ) where
 pub files-compared : (first second : List ℕ) → length first % 2 ≡ 0 → length second % 2 ≡ 0
     → machine_refusal (words_of first) ≡ 0 → machine_refusal (words_of second) ≡ 0
     → (line : Line) → Printed (first ++ second) line
-    → (answer : Answer) × Compared (words_of first) (words_of second) answer × (text line ≡ line_bytes answer)
+    → (answer : Result Answer Refused) × Compared (words_of first) (words_of second) answer × (line ≡ line_bytes answer)
 files-compared first second even₁ even₂ ok₁ ok₂ line p =
     let c = p.answered.answered (joined-readable first second even₁ even₂ ok₁ ok₂) in
     let one = joined-first first second even₁ even₂ ok₁ ok₂ in
@@ -164,7 +162,7 @@ files-compared first second even₁ even₂ ok₁ ok₂ line p =
 
 -- ---- the marked case (a): M1, M2 equal; the program prints exactly `equal`
 
-pub case-a : (line : Line) → Printed (bytes_of (M1 ++ M2)) line → text line ≡ line_bytes Equal
+pub case-a : (line : Line) → Printed (bytes_of (M1 ++ M2)) line → line ≡ line_bytes (Ok Equal)
 unfolding bytes_of word
 case-a line p =
     let one = input-cases.case-a-first in

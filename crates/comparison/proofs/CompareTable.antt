@@ -66,6 +66,15 @@ module _ (M₁ M₂ : List ℕ) (space : ℕ) where
     unfolding compare_questions
     by-none h l = search (asked-none, asked-yes, agree, sym (le-leb (nodes M₁ + nodes M₂) nodes_most h), sym (le-leb room space l))
 
+  -- they are put to no machine sheet
+  pub as-last : (k : ℕ) → k ≡ (first_no last_questions).number → record { number = k; sheet = 0 } ≡ first_no last_questions
+  as-last k e = let none = sym (no-sheet last_questions last-put) in λ i. record { number = e i; sheet = none i }
+
+  -- nothing says no
+  pub none-last : signals M₁ ≡ signals M₂ → nodes M₁ + nodes M₂ ≤ nodes_most → room ≤ space → no_refusal ≡ first_no last_questions
+  unfolding no_refusal
+  none-last same h l = as-last 0 (by-none same h l)
+
   -- ---- what it says where it refuses nothing
 
   pub record Compared : Type 0 where

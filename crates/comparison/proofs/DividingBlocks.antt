@@ -1,5 +1,5 @@
--- Dividing: the loop that splits every block by two sets, from one that they split to the next.
-use mathlib.Core.Path.{sym, subst}
+-- Dividing: the loop that splits every block by two sets.
+use mathlib.Core.Path.{◌≡◌, sym, subst}
 use mathlib.Core.Logic.{◌≢◌, by_cases}
 use Prim.Native.Nat.{ℕ, ◌+◌, ◌≤◌, ◌<◌}
 use native.Mathlib.Decide.{ℕ_discrete, dec_lt}
@@ -7,58 +7,58 @@ use native.Mathlib.Omega.{arith}
 use mathlib.Core.List.{List}
 use mathlib.Core.Bool.{Bool}
 use lib.Dec.{T}
+use Rattle.truth.specs.Passed.{nodes_most}
 use Rattle.comparison.specs.inner.Blocks.{Unsplit, Split}
-use Rattle.comparison.specs.inner.Tables.{State, first_of, second_of, Room, SplitBlock}
-use Rattle.comparison.specs.inner.Stages.{Ready, NextSplit, Starts, Finer, Kept, Divided}
+use Rattle.comparison.specs.inner.Tables.{first_of, second_of, Room, SplitBlock, OfNodes}
+use Rattle.comparison.specs.declared.blocks.Partition.{Partition}
+use Rattle.comparison.specs.inner.Stages.{Ready, Finer, Kept, Divided}
 use Rattle.comparison.proofs.FinerBlocks.{unsplit-part, unsplit-here, unsplit-added, finer-none, finer-then, finer-split, kept-others}
-use Rattle.comparison.proofs.StagedSplits.{staged-less, room, ready-again}
-
--- one more of the numbers from b on
-pub from_more : (P : ℕ → Type 0) (b c : ℕ) → ((d : ℕ) → b ≤ d → d < c → P d) → P c → (d : ℕ) → b ≤ d → d < c + 1 → P d
-from_more P b c f x d l h = by_cases (ℕ_discrete d c) (λ e. subst P (sym e) x) (λ n. f d l (omega arith))
+use Rattle.comparison.proofs.StagedSplits.{blocks-fit, room, ready-again}
 
 -- a block that was kept is not split, if it was not
-unsplit-kept : (M₁ M₂ : List ℕ) (st st' : State) (d : ℕ) (x₁ x₂ : ℕ → Bool) → Kept st st' d → Unsplit M₁ M₂ (first_of st) (second_of st) d x₁ x₂
+unsplit-kept : (M₁ M₂ : List ℕ) (st st' : Partition) (d : ℕ) (x₁ x₂ : ℕ → Bool) → Kept st st' d → Unsplit M₁ M₂ (first_of st) (second_of st) d x₁ x₂
     → Unsplit M₁ M₂ (first_of st') (second_of st') d x₁ x₂
 unsplit-kept M₁ M₂ st st' d x₁ x₂ k =
     unsplit-part M₁ M₂ (first_of st) (second_of st) (first_of st') (second_of st') d d (λ s t. subst T (k.first s) t) (λ s t. subst T (k.second s) t) x₁ x₂
 
--- st has become st': block b is the next that the sets split, or they split none
-pub record Dividing (M₁ M₂ : List ℕ) (st st' : State) (p : ℕ) (x₁ x₂ : ℕ → Bool) (b : ℕ) : Type 0 where
-  pub spare : ℕ
-  pub ready : Ready M₁ M₂ spare st' p x₁ x₂
-  pub enough : 4 ≤ spare
-  pub settled : st.count ≤ b → 5 ≤ spare
+-- st has become st', where the sets split no block before b, and none that was added
+pub record Dividing (M₁ M₂ : List ℕ) (st st' : Partition) (p : ℕ) (x₁ x₂ : ℕ → Bool) (b : ℕ) : Type 0 where
+  pub ready : Ready M₁ M₂ 5 st' p x₁ x₂
   pub finer : Finer st st'
   pub done : (c : ℕ) → c < b → Unsplit M₁ M₂ (first_of st') (second_of st') c x₁ x₂
   pub added : (c : ℕ) → st.count ≤ c → c < st'.count → Unsplit M₁ M₂ (first_of st') (second_of st') c x₁ x₂
-  pub divides : b < st.count → Split M₁ M₂ (first_of st') (second_of st') b x₁ x₂
 
-module _ (M₁ M₂ : List ℕ) (st : State) (p : ℕ) (x₁ x₂ : ℕ → Bool) where
-  pub dividing-none : (b : ℕ) → Starts M₁ M₂ st b p x₁ x₂ → Dividing M₁ M₂ st st p x₁ x₂ b
-  dividing-none b s = record {
-    spare = s.spare;
-    ready = s.ready;
-    enough = s.enough;
-    settled = s.settled;
-    finer = finer-none st;
-    done = λ c h. s.next.before c (omega arith) h;
-    added = λ c l h. absurd (omega arith);
-    divides = λ h. s.next.found h (s.ready.staged.of_nodes b h);
-  }
+module _ (M₁ M₂ : List ℕ) (st : Partition) (p : ℕ) (x₁ x₂ : ℕ → Bool) where
+  pub dividing-none : Ready M₁ M₂ 5 st p x₁ x₂ → Dividing M₁ M₂ st st p x₁ x₂ 0
+  dividing-none w = record { ready = w; finer = finer-none st; done = λ c h. absurd (omega arith); added = λ c l h. absurd (omega arith) }
 
-  module _ (st₁ : State) (b : ℕ) (d : Dividing M₁ M₂ st st₁ p x₁ x₂ b) where
-    module _ (h : b < st.count) where
+  module _ (st₁ : Partition) (b : ℕ) (d : Dividing M₁ M₂ st st₁ p x₁ x₂ b) where
+    -- there are as many blocks as came, or more, and numbers for them
+    pub dividing-many : (st.count ≤ st₁.count) × (st₁.count ≤ nodes_most)
+    dividing-many = (d.finer.more, blocks-fit M₁ M₂ 5 st₁ d.ready.staged)
+
+    -- block b is not split
+    pub dividing-skip : Unsplit M₁ M₂ (first_of st₁) (second_of st₁) b x₁ x₂ → Dividing M₁ M₂ st st₁ p x₁ x₂ (b + 1)
+    dividing-skip u = record {
+      ready = d.ready;
+      finer = d.finer;
+      done = λ c l. by_cases (ℕ_discrete c b) (λ q. subst (λ (i : ℕ). Unsplit M₁ M₂ (first_of st₁) (second_of st₁) i x₁ x₂) (sym q) u) (λ f. d.done c (omega arith));
+      added = d.added;
+    }
+
+    -- it is
+    module _ (h : b < st.count) (tells : OfNodes M₁ M₂ (first_of st₁) (second_of st₁) b → Split M₁ M₂ (first_of st₁) (second_of st₁) b x₁ x₂) where
       in-range : b < st₁.count
       in-range = omega (arith, d.finer.more)
 
-      pub dividing-room : Room st₁ b
-      dividing-room = room M₁ M₂ d.spare st₁ p x₁ x₂ d.enough d.ready b in-range (d.divides h)
+      divides : Split M₁ M₂ (first_of st₁) (second_of st₁) b x₁ x₂
+      divides = tells (d.ready.staged.of_nodes b in-range)
 
-      pub dividing-more : (st₂ : State) (b' : ℕ) → SplitBlock st₁ st₂ b p x₁ x₂
-          → NextSplit M₁ M₂ (first_of st₂) (second_of st₂) (b + 1) st.count x₁ x₂ b' → Dividing M₁ M₂ st st₂ p x₁ x₂ b'
-      dividing-more st₂ b' cut n =
-          let w = ready-again M₁ M₂ d.spare st₁ p x₁ x₂ d.enough d.ready b in-range (d.divides h) st₂ cut in
+      pub dividing-room : Room st₁ b
+      dividing-room = room M₁ M₂ 5 st₁ p x₁ x₂ (omega arith) d.ready b in-range divides
+
+      pub dividing-more : (st₂ : Partition) → SplitBlock st₁ st₂ b p x₁ x₂ → Dividing M₁ M₂ st st₂ p x₁ x₂ (b + 1)
+      dividing-more st₂ cut =
           let q₁ = cut.first.parted in
           let q₂ = cut.second.parted in
           let kept : (c : ℕ) → c < st₁.count → c ≢ b → Unsplit M₁ M₂ (first_of st₁) (second_of st₁) c x₁ x₂ → Unsplit M₁ M₂ (first_of st₂) (second_of st₂) c x₁ x₂ =
@@ -66,25 +66,21 @@ module _ (M₁ M₂ : List ℕ) (st : State) (p : ℕ) (x₁ x₂ : ℕ → Bool
           let wide = d.finer.more in
           let more = cut.count in
           record {
-            spare = 5;
-            ready = w;
-            enough = omega arith;
-            settled = λ l. omega arith;
+            ready = ready-again M₁ M₂ 5 st₁ p x₁ x₂ (omega arith) d.ready b in-range divides st₂ cut;
             finer = finer-then st st₁ st₂ d.finer (finer-split st₁ st₂ b p x₁ x₂ in-range cut);
             done = λ c l. by_cases (ℕ_discrete c b)
                 (λ q. subst (λ (i : ℕ). Unsplit M₁ M₂ (first_of st₂) (second_of st₂) i x₁ x₂) (sym q)
                 (unsplit-here M₁ M₂ (first_of st₁) (second_of st₁) (first_of st₂) (second_of st₂) st₁.count b x₁ x₂ q₁ q₂))
-                (λ f. by_cases (dec_lt c b) (λ g. kept c (omega arith) f (d.done c g)) (λ g. n.before c (omega arith) l));
+                (λ f. kept c (omega arith) f (d.done c (omega arith)));
             added = λ c l g. by_cases (ℕ_discrete c st₁.count)
                 (λ q. subst (λ (i : ℕ). Unsplit M₁ M₂ (first_of st₂) (second_of st₂) i x₁ x₂) (sym q)
                 (unsplit-added M₁ M₂ (first_of st₁) (second_of st₁) (first_of st₂) (second_of st₂) st₁.count b x₁ x₂ q₁ q₂))
                 (λ f. kept c (omega arith) (λ q. omega arith) (d.added c l (omega arith)));
-            divides = λ l. n.found l (w.staged.of_nodes b' (omega arith));
           }
 
-    pub dividing-end : st.count ≤ b → Divided M₁ M₂ st st₁ x₁ x₂
-    dividing-end h = record {
-      staged = staged-less M₁ M₂ d.spare 5 st₁ (d.settled h) d.ready.staged;
+    pub dividing-end : b ≡ st.count → Divided M₁ M₂ st st₁ x₁ x₂
+    dividing-end e = record {
+      staged = d.ready.staged;
       finer = d.finer;
       done = λ c l. by_cases (dec_lt c b) (d.done c) (λ g. d.added c (omega arith) l);
     }

@@ -10,7 +10,8 @@ use Rattle.truth.specs.Passed.{nodes}
 use Rattle.truth.proofs.Passed.{and_left, and_right}
 use Rattle.comparison.specs.inner.Blocks.{Members, In, AllIn, Meets, Unsplit, Split}
 use Rattle.comparison.specs.inner.Refinement.{Parted}
-use Rattle.comparison.specs.inner.Tables.{State, first_of, second_of, SplitBlock}
+use Rattle.comparison.specs.inner.Tables.{first_of, second_of, SplitBlock}
+use Rattle.comparison.specs.declared.blocks.Partition.{Partition}
 use Rattle.comparison.specs.inner.Stages.{Finer, Kept}
 use Rattle.comparison.proofs.Refinement.{each-block}
 
@@ -73,7 +74,7 @@ parted-within count c y x mem mem' e p = record {
     outside true q = refl
     outside false q = refl
 
-pub split-within : (st st' : State) (c p : ℕ) (y₁ y₂ x₁ x₂ : ℕ → Bool) → ((s : ℕ) → y₁ s ≡ (first_of st c s && x₁ s)) → ((t : ℕ) → y₂ t ≡ (second_of st c t && x₂ t))
+pub split-within : (st st' : Partition) (c p : ℕ) (y₁ y₂ x₁ x₂ : ℕ → Bool) → ((s : ℕ) → y₁ s ≡ (first_of st c s && x₁ s)) → ((t : ℕ) → y₂ t ≡ (second_of st c t && x₂ t))
     → SplitBlock st st' c p y₁ y₂ → SplitBlock st st' c p x₁ x₂
 split-within st st' c p y₁ y₂ x₁ x₂ e₁ e₂ b = record {
   first = record { size = b.first.size; parted = parted-within st.count c y₁ x₁ (first_of st) (first_of st') e₁ b.first.parted };
@@ -86,10 +87,10 @@ split-within st st' c p y₁ y₂ x₁ x₂ e₁ e₂ b = record {
 
 -- ---- finer blocks
 
-pub finer-none : (st : State) → Finer st st
+pub finer-none : (st : Partition) → Finer st st
 finer-none st = record { more = omega arith; part = λ d h. (d, h, λ s t. t, λ s t. t) }
 
-pub finer-then : (a b c : State) → Finer a b → Finer b c → Finer a c
+pub finer-then : (a b c : Partition) → Finer a b → Finer b c → Finer a c
 finer-then a b c f g = record {
   more = omega (arith, f.more, g.more);
   part = λ d h.
@@ -98,7 +99,7 @@ finer-then a b c f g = record {
       (x.0, x.1, λ s t. x.2 s (y.2 s t), λ s t. x.3 s (y.3 s t));
 }
 
-pub unsplit-finer : (M₁ M₂ : List ℕ) (st st' : State) (x₁ x₂ : ℕ → Bool) → Finer st st' → ((c : ℕ) → c < st.count → Unsplit M₁ M₂ (first_of st) (second_of st) c x₁ x₂)
+pub unsplit-finer : (M₁ M₂ : List ℕ) (st st' : Partition) (x₁ x₂ : ℕ → Bool) → Finer st st' → ((c : ℕ) → c < st.count → Unsplit M₁ M₂ (first_of st) (second_of st) c x₁ x₂)
     → (d : ℕ) → d < st'.count → Unsplit M₁ M₂ (first_of st') (second_of st') d x₁ x₂
 unsplit-finer M₁ M₂ st st' x₁ x₂ f u d h =
     let y = f.part d h in
@@ -106,7 +107,7 @@ unsplit-finer M₁ M₂ st st' x₁ x₂ f u d h =
 
 -- ---- a split
 
-module _ (st st' : State) (c p : ℕ) (x₁ x₂ : ℕ → Bool) (h : c < st.count) (b : SplitBlock st st' c p x₁ x₂) where
+module _ (st st' : Partition) (c p : ℕ) (x₁ x₂ : ℕ → Bool) (h : c < st.count) (b : SplitBlock st st' c p x₁ x₂) where
   -- a fact of the blocks afterwards: of the added one, of c, and of the others
   each_after : (P : ℕ → Type 0) → P st.count → P c → ((d : ℕ) → d < st.count → d ≢ c → P d) → (d : ℕ) → d < st'.count → P d
   each_after P added here others d l = each-block st.count c P added here others d (omega (arith, b.count))

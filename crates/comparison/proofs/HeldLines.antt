@@ -1,50 +1,16 @@
 -- Lines in a space of words: a line's six words are stored below the others, and lists of lines are written one after the other.
 use mathlib.Core.Path.{◌≡◌, refl, ap, ◌∙◌}
-use Prim.Native.Nat.{ℕ, ◌+◌, ◌*◌, ◌≤◌, ◌<◌}
+use Prim.Native.Nat.{ℕ, ◌+◌, ◌*◌}
 use native.Mathlib.Numerals.{add-one}
-use native.Mathlib.Nat.{add-zero}
 use native.Mathlib.Omega.{arith}
 use mathlib.Core.List.{List, [], ◌∷◌, ◌++◌, append_assoc}
-use lib.ListN.{length, set, take, length-append, length-set}
-use lib.Seq.{take-suc-set}
-use Rattle.truth.specs.Passed.{line_words, operation_place, operand_place, line_record}
+use lib.ListN.{length, take, length-append}
+use Rattle.truth.specs.Passed.{line_words}
 use Rattle.comparison.specs.inner.Sizes.{written_space}
-use Rattle.comparison.specs.inner.Lines.{Entry, sig, neg, alt, words, written_words, signal_lines, everywhere, first_lines, split, HoldsLines, Adds}
+use Rattle.comparison.specs.inner.Lines.{Entry, sig, neg, alt, words, written_words, signal_lines, everywhere, first_lines, split, HoldsLines, Adds, Pushed}
+use Rattle.comparison.specs.declared.writing.Written.{Written}
 use Rattle.comparison.proofs.Lines.{words-below}
 use Rattle.comparison.proofs.FirstLines.{signal-length}
-
--- ---- six stores
-
--- one store below what stands there
-stored_next : (l front : List ℕ) (k j v : ℕ) → take k l ≡ front → j ≡ k + 1 → k < length l → take j (set l k v) ≡ front ++ v ∷ []
-stored_next l front k j v e f h = rw (f, add-one, ← e) (take-suc-set l k v h)
-
-six-stored : (l : List ℕ) (k u v w x y z : ℕ) → k + line_words ≤ length l
-    → take (k + line_words) (set (set (set (set (set (set l k u) (k + 1) v) (k + 2) w) (k + 3) x) (k + 4) y) (k + 5) z) ≡ take k l ++ u ∷ v ∷ w ∷ x ∷ y ∷ z ∷ []
-six-stored l k u v w x y z h =
-    let l₁ = set l k u in
-    let l₂ = set l₁ (k + 1) v in
-    let l₃ = set l₂ (k + 2) w in
-    let l₄ = set l₃ (k + 3) x in
-    let l₅ = set l₄ (k + 4) y in
-    let n₁ = length-set l k u in
-    let n₂ = length-set l₁ (k + 1) v in
-    let n₃ = length-set l₂ (k + 2) w in
-    let n₄ = length-set l₃ (k + 3) x in
-    let n₅ = length-set l₄ (k + 4) y in
-    let e₁ = stored_next l (take k l) k (k + 1) u refl (omega arith) (omega arith) in
-    let e₂ = stored_next l₁ (take k l ++ u ∷ []) (k + 1) (k + 2) v e₁ (omega arith) (omega arith) in
-    let e₃ = stored_next l₂ ((take k l ++ u ∷ []) ++ v ∷ []) (k + 2) (k + 3) w e₂ (omega arith) (omega arith) in
-    let e₄ = stored_next l₃ (((take k l ++ u ∷ []) ++ v ∷ []) ++ w ∷ []) (k + 3) (k + 4) x e₃ (omega arith) (omega arith) in
-    let e₅ = stored_next l₄ ((((take k l ++ u ∷ []) ++ v ∷ []) ++ w ∷ []) ++ x ∷ []) (k + 4) (k + 5) y e₄ (omega arith) (omega arith) in
-    stored_next l₅ (((((take k l ++ u ∷ []) ++ v ∷ []) ++ w ∷ []) ++ x ∷ []) ++ y ∷ []) (k + 5) (k + line_words) z e₅ (omega arith) (omega arith)
-    ∙ simp append_assoc
-
--- a line record is stored
-pub record-stored : (l : List ℕ) (k op x y : ℕ) → k + line_words ≤ length l
-    → take (k + line_words) (set (set (set (set (set (set l (k + operation_place) op) (k + operand_place) x) (k + (operand_place + 1)) y) (k + (operand_place + 2)) 0) (k + (operand_place + 3)) 0) (k + (operand_place + 4)) 0)
-    ≡ take k l ++ line_record op x y
-record-stored l k op x y h = rw (add-zero k) (six-stored l k op x y 0 0 0 h)
 
 -- ---- lines
 
@@ -91,3 +57,55 @@ adds-split s₀ s₁ s₂ s₃ s₄ s₅ s₆ n b p f₁ f₂ f₃ f₄ f₅ f�
     let g₃ = adds_then s₂ s₃ s₆ (n + 2) (n + 3) (alt (n + 1) (n + 2) ∷ []) (neg (n + 3) ∷ alt (n + 1) p ∷ neg (n + 5) ∷ []) f₃ (omega arith) g₄ in
     let g₂ = adds_then s₁ s₂ s₆ (n + 1) (n + 2) (neg p ∷ []) (alt (n + 1) (n + 2) ∷ neg (n + 3) ∷ alt (n + 1) p ∷ neg (n + 5) ∷ []) f₂ (omega arith) g₃ in
     adds_then s₀ s₁ s₆ n (n + 1) (neg b ∷ []) (neg p ∷ alt (n + 1) (n + 2) ∷ neg (n + 3) ∷ alt (n + 1) p ∷ neg (n + 5) ∷ []) f₁ (omega arith) g₂
+
+-- the words of a line were stored below the others
+pub pushed-line : (before after : Written) (l : Entry) → after.count ≡ before.count + 1 → length after.words ≡ written_space
+    → take (line_words * before.count + line_words) after.words ≡ take (line_words * before.count) before.words ++ words l → Pushed before after (l ∷ [])
+pushed-line before after l count size e = record { count = count; adds = adds-line before.words after.words before.count l size e }
+
+-- the six pushes of a split
+pub pushed-split : (w₀ w₁ w₂ w₃ w₄ w₅ w₆ : Written) (b p i₁ i₂ i₃ i₅ : ℕ) → i₁ ≡ w₀.count + 1 → i₂ ≡ w₁.count + 1 → i₃ ≡ w₂.count + 1 → i₅ ≡ w₄.count + 1
+    → Pushed w₀ w₁ (neg b ∷ []) → Pushed w₁ w₂ (neg p ∷ []) → Pushed w₂ w₃ (alt i₁ i₂ ∷ []) → Pushed w₃ w₄ (neg i₃ ∷ []) → Pushed w₄ w₅ (alt i₁ p ∷ [])
+    → Pushed w₅ w₆ (neg i₅ ∷ []) → Pushed w₀ w₆ (split w₀.count b p)
+unfolding split
+pushed-split w₀ w₁ w₂ w₃ w₄ w₅ w₆ b p i₁ i₂ i₃ i₅ e₁ e₂ e₃ e₅ f₁ f₂ f₃ f₄ f₅ f₆ =
+    let n = w₀.count in
+    let c₁ : w₁.count ≡ n + 1 = f₁.count in
+    let c₂ : w₂.count ≡ n + 2 = omega (arith, f₂.count) in
+    let c₃ : w₃.count ≡ n + 3 = omega (arith, f₃.count) in
+    let c₄ : w₄.count ≡ n + 4 = omega (arith, f₄.count) in
+    let c₅ : w₅.count ≡ n + 5 = omega (arith, f₅.count) in
+    let j₂ : i₂ ≡ n + 2 = omega arith in
+    let j₃ : i₃ ≡ n + 3 = omega arith in
+    let j₅ : i₅ ≡ n + 5 = omega arith in
+    record {
+      count = omega (arith, f₆.count);
+      adds = adds-split w₀.words w₁.words w₂.words w₃.words w₄.words w₅.words w₆.words n b p f₁.adds (rw c₁ at f₂.adds) (rw (c₂, e₁, j₂) at f₃.adds)
+          (rw (c₃, j₃) at f₄.adds) (rw (c₄, e₁) at f₅.adds) (rw (c₅, j₅) at f₆.adds);
+    }
+
+-- ---- the first lines, pushed one after the other
+
+-- the signals below i are written, and nothing else
+pub record SignalsWritten (w : Written) (i : ℕ) : Type 0 where
+  pub next : i ≡ w.count + 1
+  pub holds : HoldsLines w.words (signal_lines w.count)
+
+pub signals-begun : (w : Written) → w.count ≡ 0 → length w.words ≡ written_space → SignalsWritten w 1
+unfolding signal_lines
+signals-begun w e size = record { next = omega arith; holds = rw e (holds-none w.words size) }
+
+pub signals-pushed : (w w' : Written) (i : ℕ) → SignalsWritten w i → Pushed w w' (sig i ∷ []) → SignalsWritten w' (i + 1)
+signals-pushed w w' i s f =
+    let e : w'.count ≡ w.count + 1 = f.count in
+    record { next = omega (arith, s.next); holds = rw e (holds-signal w.words w'.words w.count s.holds (rw s.next at f.adds)) }
+
+pub signals-written : (w : Written) (i a : ℕ) → SignalsWritten w i → i ≡ a + 1 → HoldsLines w.words (signal_lines a)
+signals-written w i a s e = let q : w.count ≡ a = omega (arith, s.next) in rw q at s.holds
+
+pub pushed-first : (w₁ w₂ w₃ : Written) (a i : ℕ) → w₁.count ≡ a → HoldsLines w₁.words (signal_lines a) → Pushed w₁ w₂ (neg 1 ∷ []) → i ≡ w₁.count + 1
+    → Pushed w₂ w₃ (alt 1 i ∷ []) → HoldsLines w₃.words (first_lines a)
+pushed-first w₁ w₂ w₃ a i e h f q g =
+    let c : w₂.count ≡ a + 1 = omega (arith, f.count) in
+    let j : i ≡ a + 1 = omega arith in
+    holds-first w₁.words w₂.words w₃.words a h (rw e at f.adds) (rw (c, j) at g.adds)

@@ -41,4 +41,5 @@ pub mod SameTruths
 pub mod MergedLines
 pub mod NeededMarks
 pub mod NeededLines
+pub mod CopiedLines
 pub mod ShorterRules

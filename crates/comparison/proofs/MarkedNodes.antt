@@ -1,7 +1,7 @@
 -- The nodes of a row that get a mark, one after the other, and the marks of blocks.
 use mathlib.Core.Path.{◌≡◌, refl, sym, subst, ◌∙◌}
 use mathlib.Core.Logic.{◌⊎◌, ◌≢◌, inl, inr, ⊎_elim, by_cases}
-use Prim.Native.Nat.{ℕ, ◌+◌, ◌≤◌, ◌<◌}
+use Prim.Native.Nat.{ℕ, ◌+◌, ◌<◌}
 use native.Mathlib.Decide.{ℕ_discrete}
 use native.Mathlib.Omega.{arith}
 use mathlib.Core.List.{List}
@@ -9,12 +9,9 @@ use mathlib.Core.Bool.{Bool, true, false, not, ◌||◌}
 use lib.ListN.{length, get_or, set, length-set}
 use lib.Seq.{get_or-set_same, get_or-set_other}
 use lib.Dec.{T, not_T}
-use Rattle.truth.specs.Passed.{nodes_most}
 use Rattle.comparison.specs.inner.Sizes.{node_places}
-use Rattle.truth.specs.inner.Rows.{tally}
 use Rattle.truth.proofs.Passed.{and_left, and_both, dec-test}
-use Rattle.truth.proofs.rows.RowLaws.{tally-number}
-use Rattle.truth.proofs.rows.RowWalks.{Less, less-in, less-or, less-falls}
+use Rattle.truth.proofs.rows.RowWalks.{Less, less-in, less-or}
 use Rattle.comparison.specs.inner.Blocks.{Members}
 use Rattle.comparison.specs.inner.Refinement.{Parted}
 use Rattle.comparison.specs.inner.Signatures.{MarkedRow, BlockMarks}
@@ -22,10 +19,6 @@ use Rattle.comparison.specs.inner.Signatures.{MarkedRow, BlockMarks}
 pub or_right : (a b : Bool) → T b → T (a || b)
 or_right true b t = tt
 or_right false b t = t
-
--- what is left becomes less
-pub left-falls : (left left' : ℕ → Bool) (u : ℕ) → Less left u left' → 1 ≤ u → u ≤ nodes_most → T (left u) → tally nodes_most left' < tally nodes_most left
-left-falls left left' u less lo hi t = omega (arith, less-falls left left' u less lo hi t, tally-number nodes_most left, tally-number nodes_most left')
 
 -- ---- the nodes of a row marked: those that are not left have the mark
 pub record Marking (row : ℕ → Bool) (e : ℕ) (before now : List ℕ) (left : ℕ → Bool) : Type 0 where

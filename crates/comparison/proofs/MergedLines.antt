@@ -1,5 +1,5 @@
 -- Lines made one: the line that stands for the next one is true at the same nodes.
-use mathlib.Core.Path.{◌≡◌, sym, subst, ap, ◌∙◌}
+use mathlib.Core.Path.{◌≡◌, sym, subst, ◌∙◌}
 use mathlib.Core.Logic.{◌⊎◌, inl, inr, by_cases}
 use Prim.Native.Nat.{ℕ, ◌+◌, ◌≤◌, ◌<◌}
 use native.Mathlib.Omega.{arith}
@@ -275,14 +275,3 @@ module _ (a : ℕ) (ls : List Entry) (down : Downward a ls) (n i : ℕ) (e : i �
       (merged-or a ls down n (omega arith) (omega arith) same other nexts top size size_other size_nexts m j k x y (rw e at h) atx aty r u
       (subst (λ (z : ℕ). ((x ≡ get_or other top 0) × (r ≡ y)) ⊎ (((y ≡ get_or other top 0) × (r ≡ x)) ⊎ (r ≡ z))) e p)
       (subst (λ (z : ℕ). ((get_or other x 0 ≡ y) × (u ≡ z)) ⊎ (u ≡ top)) e q))
-
--- the table is as long as it was
-pub kept-next-length : (nexts nexts' : List ℕ) (r i t : ℕ) → length nexts ≡ line_places
-    → ((1 ≤ r) × (r ≡ get_or nexts t 0) × (nexts' ≡ nexts)) ⊎ ((r ≡ i) × (nexts' ≡ set nexts t i)) → length nexts' ≡ line_places
-kept-next-length nexts nexts' r i t size (inl x) = ap length x.2 ∙ size
-kept-next-length nexts nexts' r i t size (inr x) = ap length x.1 ∙ length-set nexts t i ∙ size
-
-pub kept-length : (other other' : List ℕ) (r i t : ℕ) → length other ≡ line_places
-    → ((1 ≤ r) × (r ≡ get_or other t 0) × (other' ≡ other)) ⊎ ((r ≡ i) × (other' ≡ set (set other t i) i t)) → length other' ≡ line_places
-kept-length other other' r i t size (inl x) = ap length x.2 ∙ size
-kept-length other other' r i t size (inr x) = ap length x.1 ∙ length-set (set other t i) i t ∙ length-set other t i ∙ size

@@ -1,18 +1,19 @@
--- Words pasted into the lent space: one word more, and the sheet that its head and its lines make.
+-- Words pasted into the lent space: some of a list, and the sheet that its head and its lines make.
 use mathlib.Core.Path.{◌≡◌, refl, sym, ap, ap₂, ◌∙◌}
-use Prim.Native.Nat.{ℕ, ◌+◌, ◌*◌, ◌<◌}
-use native.Mathlib.Numerals.{add-one}
+use Prim.Native.Nat.{ℕ, ◌+◌, ◌*◌, ◌≤◌}
 use native.Mathlib.Omega.{arith}
 use mathlib.Core.List.{List, ◌++◌}
-use lib.ListN.{length, get_or, set, take, drop}
-use lib.Seq.{paste, paste-suc, take_at, drop_at, drop-drop}
+use lib.ListN.{length, set, take, drop}
+use lib.Seq.{paste, length-take-le, take-take, take_at, drop_at, drop-drop}
 use Rattle.truth.specs.Passed.{line_words, next_head}
 use Rattle.comparison.specs.Comparison.{next_words, rule_head}
 use Rattle.comparison.specs.inner.Lines.{Entry, written_words, sheet, HoldsLines}
 use Rattle.comparison.proofs.Lines.{length-sheet}
 
-pub pasted : (d d' : List ℕ) (at : ℕ) (s : List ℕ) (i : ℕ) → d' ≡ paste d at s i → at + i < length d → i < length s → set d' (at + i) (get_or s i 0) ≡ paste d at s (i + 1)
-pasted d d' at s i e h l = rw (e, add-one) (paste-suc d at s i 0 h l)
+-- the words that are taken, all of them
+pub pasted-part : (d : List ℕ) (at : ℕ) (s : List ℕ) (n : ℕ) → n ≤ length s → paste d at (take n s) (length (take n s)) ≡ paste d at s n
+pasted-part d at s n h =
+    ap (paste d at (take n s)) (length-take-le n s h) ∙ ap (λ (r : List ℕ). (take at d ++ r) ++ drop (at + n) d) (take-take n n s (omega arith))
 
 -- ---- a space of words with a head, then the words of n lines
 

@@ -7,39 +7,38 @@ use native.Mathlib.Omega.{arith}
 use mathlib.Core.List.{List}
 use Rattle.truth.specs.Passed.{kripke, signals, nodes_most}
 use Rattle.comparison.specs.inner.Blocks.{Unsplit}
-use Rattle.comparison.specs.inner.Tables.{State, first_of, second_of}
+use Rattle.comparison.specs.inner.Tables.{first_of, second_of}
+use Rattle.comparison.specs.declared.blocks.Partition.{Partition}
 use Rattle.comparison.specs.inner.Stages.{Staged, Divided, Signalled, Settled, Partitioned}
 use Rattle.comparison.specs.inner.Signatures.{Turned}
-use Rattle.comparison.specs.declared.refine.Partition.{Partition}
 use Rattle.comparison.proofs.StagedSplits.{blocks-fit}
 use Rattle.comparison.proofs.FinerBlocks.{unsplit-finer}
 
--- ---- signals 1 to i split no block
+-- ---- the signals below i split no block
 
-pub record SignalsTo (M₁ M₂ : List ℕ) (st : State) (i : ℕ) : Type 0 where
+pub record SignalsBelow (M₁ M₂ : List ℕ) (st : Partition) (i : ℕ) : Type 0 where
   pub staged : Staged M₁ M₂ 5 st
-  pub done : (c j : ℕ) → c < st.count → 1 ≤ j → j ≤ i → Unsplit M₁ M₂ (first_of st) (second_of st) c ((kripke M₁).signal j) ((kripke M₂).signal j)
+  pub done : (c j : ℕ) → c < st.count → 1 ≤ j → j < i → Unsplit M₁ M₂ (first_of st) (second_of st) c ((kripke M₁).signal j) ((kripke M₂).signal j)
 
-module _ (M₁ M₂ : List ℕ) (st : State) where
-  pub signals-none : Staged M₁ M₂ 5 st → SignalsTo M₁ M₂ st 0
+module _ (M₁ M₂ : List ℕ) (st : Partition) where
+  pub signals-none : Staged M₁ M₂ 5 st → SignalsBelow M₁ M₂ st 1
   signals-none s = record { staged = s; done = λ c j h lo hi. absurd (omega arith) }
 
-  pub signals-more : (st' : State) (i : ℕ) → SignalsTo M₁ M₂ st i
-      → Divided M₁ M₂ st st' ((kripke M₁).signal (i + 1)) ((kripke M₂).signal (i + 1)) → SignalsTo M₁ M₂ st' (i + 1)
+  pub signals-more : (st' : Partition) (i : ℕ) → SignalsBelow M₁ M₂ st i → Divided M₁ M₂ st st' ((kripke M₁).signal i) ((kripke M₂).signal i) → SignalsBelow M₁ M₂ st' (i + 1)
   signals-more st' i s d = record { staged = d.staged; done = done }
     where
-      done : (c j : ℕ) → c < st'.count → 1 ≤ j → j ≤ i + 1 → Unsplit M₁ M₂ (first_of st') (second_of st') c ((kripke M₁).signal j) ((kripke M₂).signal j)
+      done : (c j : ℕ) → c < st'.count → 1 ≤ j → j < i + 1 → Unsplit M₁ M₂ (first_of st') (second_of st') c ((kripke M₁).signal j) ((kripke M₂).signal j)
       done c j h lo hi =
-          by_cases (ℕ_discrete j (i + 1))
+          by_cases (ℕ_discrete j i)
           (λ e. subst (λ (k : ℕ). Unsplit M₁ M₂ (first_of st') (second_of st') c ((kripke M₁).signal k) ((kripke M₂).signal k)) (sym e) (d.done c h))
           (λ f. unsplit-finer M₁ M₂ st st' ((kripke M₁).signal j) ((kripke M₂).signal j) d.finer (λ b l. s.done b j l lo (omega arith)) c h)
 
-  pub signals-all : (i : ℕ) → i ≡ signals M₁ → SignalsTo M₁ M₂ st i → Signalled M₁ M₂ st
+  pub signals-all : (i : ℕ) → signals M₁ < i → SignalsBelow M₁ M₂ st i → Signalled M₁ M₂ st
   signals-all i e s = record { staged = s.staged; signals-done = λ c j h lo hi. s.done c j h lo (omega arith) }
 
 -- ---- turns
 
-module _ (M₁ M₂ : List ℕ) (st st' : State) (t : Turned M₁ M₂ st st') where
+module _ (M₁ M₂ : List ℕ) (st st' : Partition) (t : Turned M₁ M₂ st st') where
   pub signalled-on : Signalled M₁ M₂ st → Signalled M₁ M₂ st'
   signalled-on s = record {
     staged = t.staged;
@@ -58,7 +57,7 @@ module _ (M₁ M₂ : List ℕ) (st st' : State) (t : Turned M₁ M₂ st st') w
 -- ---- the end
 
 pub partitioned : (M₁ M₂ : List ℕ) (p : Partition)
-    → Settled M₁ M₂ (record { first = p.first; second = p.second; line = p.line; words = p.words; count = p.count; lines = p.lines }) → Partitioned M₁ M₂ p
+    → Settled M₁ M₂ p → Partitioned M₁ M₂ p
 partitioned M₁ M₂ p s =
     let w = s.signalled.staged in
     record {

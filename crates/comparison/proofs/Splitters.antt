@@ -1,24 +1,27 @@
 -- The splitters: a signal, and "some next" of a set by a line written for it. What they are ready for, and what they come to.
-use mathlib.Core.Path.{◌≡◌, sym, ◌∙◌}
-use Prim.Native.Nat.{ℕ, ◌+◌, ◌*◌, ◌≤◌}
+use mathlib.Core.Path.{◌≡◌, sym, subst, ◌∙◌}
+use Prim.Native.Nat.{ℕ, ◌+◌, ◌≤◌}
 use native.Mathlib.Omega.{arith}
 use mathlib.Core.List.{List, [], ◌∷◌, ◌++◌}
 use mathlib.Core.Bool.{Bool, ◌&&◌}
 use borrow.Author.Tests.{le-leb}
-use lib.ListN.{length, get_or, length-append}
-use lib.Dec.{leb}
-use Rattle.truth.specs.Sizes.{row_words, members_most}
+use lib.ListN.{length, length-append}
+use lib.Dec.{T, leb}
+use Rattle.truth.specs.Sizes.{members_most}
 use Rattle.truth.specs.Passed.{kripke, nodes, signals, within, nodes_most}
-use Rattle.truth.specs.inner.Rows.{row_has, rows_has, leads_into}
-use Rattle.truth.specs.declared.rows.Row.{Row}
+use Rattle.truth.specs.inner.Rows.{leads_into}
 use Rattle.truth.proofs.Passed.{passed, within_in, nodes-sized}
-use Rattle.comparison.specs.inner.Lines.{Entry, next, Adds}
+use Rattle.comparison.specs.inner.Lines.{Entry, next, Pushed}
 use Rattle.comparison.specs.inner.Blocks.{Exact}
-use Rattle.comparison.specs.inner.Tables.{State, first_of, second_of, line_of, written}
-use Rattle.comparison.specs.inner.Stages.{Staged, Cut, Ready, NextSplit, Starts, Divided}
+use Rattle.comparison.specs.inner.Tables.{first_of, second_of, line_of, written}
+use Rattle.comparison.specs.declared.blocks.Partition.{Partition}
+use Rattle.comparison.specs.inner.Stages.{Staged, Cut, Ready, Divided}
+use Rattle.comparison.specs.declared.writing.Written.{Written}
 use Rattle.comparison.proofs.AddedLines.{entry-above}
 use Rattle.comparison.proofs.ExactLines.{exact-as, exact-sig, next_down, next-added}
 use Rattle.comparison.proofs.Refinement.{grows}
+use Rattle.truth.proofs.structure.TargetRows.{leads-into}
+use Rattle.comparison.proofs.MarkedBlocks.{same_test}
 use Rattle.comparison.proofs.FinerBlocks.{unsplit-as}
 
 -- ---- the sets in rows
@@ -30,13 +33,19 @@ passing n q s = leb s n && (within 1 members_most s && q s)
 passing-node : (n : ℕ) (q : ℕ → Bool) (s : ℕ) → n ≤ nodes_most → 1 ≤ s → s ≤ n → passing n q s ≡ q s
 passing-node n q s h lo hi = rw (le-leb s n hi, passed (within 1 members_most s) (within_in 1 members_most s lo (omega arith)))
 
--- the nodes of a row with an edge into another, both loaded
-pub loaded-leading : (M B : List ℕ) (r q : Row) (c d s : ℕ) → (r.low ≡ get_or B (row_words * c) 0) × (r.high ≡ get_or B (row_words * c + 1) 0)
-    → (q.low ≡ get_or B (row_words * d) 0) × (q.high ≡ get_or B (row_words * d + 1) 0) → (row_has r s && leads_into M (row_has q) s) ≡ (rows_has B c s && leads_into M (rows_has B d) s)
-unfolding leads_into
-loaded-leading M B r q c d s e f = rw (e.0, e.1, f.0, f.1)
+-- the same sets are led into from the same nodes
+leads-same : (M : List ℕ) (p q : ℕ → Bool) (s : ℕ) → ((t : ℕ) → p t ≡ q t) → leads_into M p s ≡ leads_into M q s
+leads-same M p q s e =
+    same_test (leads_into M p s) (leads_into M q s)
+    (λ h. let x = (leads-into M p s).1 h in (leads-into M q s).0 (x.0, x.1, subst T (e x.0) x.2))
+    (λ h. let x = (leads-into M q s).1 h in (leads-into M p s).0 (x.0, x.1, subst T (sym (e x.0)) x.2))
 
-module _ (M₁ M₂ : List ℕ) (st : State) (w : Staged M₁ M₂ 5 st) (y₁ y₂ x₁ x₂ : ℕ → Bool) (e₁ : (s : ℕ) → x₁ s ≡ passing (nodes M₁) y₁ s) (e₂ : (t : ℕ) → x₂ t ≡ passing (nodes M₂) y₂ t) where
+-- the nodes of one row with an edge into another, where the rows are blocks
+pub block-leading : (M : List ℕ) (x row into m m' : ℕ → Bool) → ((s : ℕ) → x s ≡ (row s && leads_into M into s)) → ((s : ℕ) → row s ≡ m s) → ((t : ℕ) → into t ≡ m' t)
+    → (s : ℕ) → x s ≡ (m s && leads_into M m' s)
+block-leading M x row into m m' e r i s = e s ∙ rw (r s, leads-same M into m' s i)
+
+module _ (M₁ M₂ : List ℕ) (st : Partition) (w : Staged M₁ M₂ 5 st) (y₁ y₂ x₁ x₂ : ℕ → Bool) (e₁ : (s : ℕ) → x₁ s ≡ passing (nodes M₁) y₁ s) (e₂ : (t : ℕ) → x₂ t ≡ passing (nodes M₂) y₂ t) where
   same₁ : (s : ℕ) → 1 ≤ s → s ≤ nodes M₁ → x₁ s ≡ y₁ s
   same₁ s lo hi = e₁ s ∙ passing-node (nodes M₁) y₁ s (nodes-sized M₁ w.accepted₁).1 lo hi
 
@@ -51,7 +60,7 @@ module _ (M₁ M₂ : List ℕ) (st : State) (w : Staged M₁ M₂ 5 st) (y₁ y
     second = exact-as M₂ ls p y₂ x₂ (λ t lo hi. sym (same₂ t lo hi)) c.second;
   }
 
-  pub divided-rows : (st' : State) → Divided M₁ M₂ st st' x₁ x₂ → Divided M₁ M₂ st st' y₁ y₂
+  pub divided-rows : (st' : Partition) → Divided M₁ M₂ st st' x₁ x₂ → Divided M₁ M₂ st st' y₁ y₂
   divided-rows st' d = record {
     staged = d.staged;
     finer = d.finer;
@@ -59,38 +68,33 @@ module _ (M₁ M₂ : List ℕ) (st : State) (w : Staged M₁ M₂ 5 st) (y₁ y
   }
 
 -- ---- signal i
-pub signal-starts : (M₁ M₂ : List ℕ) (st : State) → Staged M₁ M₂ 5 st → (i : ℕ) → 1 ≤ i → i ≤ signals M₁ → (x₁ x₂ : ℕ → Bool)
+pub signal-ready : (M₁ M₂ : List ℕ) (st : Partition) → Staged M₁ M₂ 5 st → (i : ℕ) → 1 ≤ i → i ≤ signals M₁ → (x₁ x₂ : ℕ → Bool)
     → ((s : ℕ) → x₁ s ≡ passing (nodes M₁) ((kripke M₁).signal i) s) → ((t : ℕ) → x₂ t ≡ passing (nodes M₂) ((kripke M₂).signal i) t)
-    → (c : ℕ) → NextSplit M₁ M₂ (first_of st) (second_of st) 0 st.count x₁ x₂ c → Starts M₁ M₂ st c i x₁ x₂
-signal-starts M₁ M₂ st w i lo hi x₁ x₂ e₁ e₂ c n =
+    → Ready M₁ M₂ 5 st i x₁ x₂
+signal-ready M₁ M₂ st w i lo hi x₁ x₂ e₁ e₂ =
     let number = w.number in
     let below = w.below in
     let most : i ≤ length w.ls = omega arith in
     let down = w.refinement.down in
     record {
-      spare = 5;
-      ready = record {
-        staged = w;
-        cut = cut-rows M₁ M₂ st w ((kripke M₁).signal i) ((kripke M₂).signal i) x₁ x₂ e₁ e₂ w.ls i (record {
-          from = lo;
-          to = most;
-          first = exact-sig M₁ w.accepted₁ (signals M₁) w.ls down i lo most i (w.signal i lo hi);
-          second = exact-sig M₂ w.accepted₂ (signals M₁) w.ls down i lo most i (w.signal i lo hi);
-        });
-      };
-      enough = omega arith;
-      settled = λ h. omega arith;
-      next = n;
+      staged = w;
+      cut = cut-rows M₁ M₂ st w ((kripke M₁).signal i) ((kripke M₂).signal i) x₁ x₂ e₁ e₂ w.ls i (record {
+        from = lo;
+        to = most;
+        first = exact-sig M₁ w.accepted₁ (signals M₁) w.ls down i lo most i (w.signal i lo hi);
+        second = exact-sig M₂ w.accepted₂ (signals M₁) w.ls down i lo most i (w.signal i lo hi);
+      });
     }
 
 -- ---- some next of the sets where line l is true
-module _ (M₁ M₂ : List ℕ) (st : State) (w : Staged M₁ M₂ 5 st) (l : ℕ) (lo : 1 ≤ l) (hi : l ≤ length w.ls) (words' : List ℕ)
-    (adds : Adds st.words words' st.lines (next l ∷ [])) where
+module _ (M₁ M₂ : List ℕ) (st : Partition) (w : Staged M₁ M₂ 5 st) (l : ℕ) (lo : 1 ≤ l) (hi : l ≤ length w.ls) (more' : Written)
+    (pushed : Pushed st.lines more' (next l ∷ [])) where
   -- its line is written
-  staged-written : Staged M₁ M₂ 4 (written st words')
+  staged-written : Staged M₁ M₂ 4 (written st more')
   staged-written =
       let r = w.refinement in
       let more = next l ∷ [] in
+      let one = pushed.count in
       let size = length-append w.ls more in
       let number = w.number in
       let below = w.below in
@@ -104,7 +108,7 @@ module _ (M₁ M₂ : List ℕ) (st : State) (w : Staged M₁ M₂ 5 st) (l : �
         size_line = w.size_line;
         ls = w.ls ++ more;
         number = omega arith;
-        holds = adds.adds w.ls number w.holds;
+        holds = pushed.adds.adds w.ls number w.holds;
         refinement = grows (signals M₁) M₁ M₂ w.accepted₁ w.accepted₂ w.ls st.count (line_of st) (first_of st) (second_of st) r more
             (next_down (signals M₁) w.ls r.down l lo hi);
         of_nodes = w.of_nodes;
@@ -115,21 +119,22 @@ module _ (M₁ M₂ : List ℕ) (st : State) (w : Staged M₁ M₂ 5 st) (l : �
 
   module _ (q₁ q₂ x₁ x₂ : ℕ → Bool) (e₁ : Exact M₁ w.ls l q₁) (e₂ : Exact M₂ w.ls l q₂)
       (same₁ : (s : ℕ) → 1 ≤ s → s ≤ nodes M₁ → x₁ s ≡ leads_into M₁ q₁ s) (same₂ : (t : ℕ) → 1 ≤ t → t ≤ nodes M₂ → x₂ t ≡ leads_into M₂ q₂ t) where
-    pub ready-written : Ready M₁ M₂ 4 (written st words') (st.lines + 1) x₁ x₂
+    pub ready-written : Ready M₁ M₂ 4 (written st more') more'.count x₁ x₂
     unfolding staged-written
     ready-written =
         let down = w.refinement.down in
         let ls' = w.ls ++ next l ∷ [] in
         let size = length-append w.ls (next l ∷ []) in
         let number = w.number in
+        let one : more'.count ≡ st.lines.count + 1 = pushed.count in
         record {
           staged = staged-written;
           cut = record {
             from = omega arith;
             to = omega arith;
-            first = exact-as M₁ ls' (st.lines + 1) (leads_into M₁ q₁) x₁ (λ s a b. sym (same₁ s a b))
-                (rw number at (next-added (signals M₁) w.ls down l lo hi M₁ w.accepted₁ q₁ e₁));
-            second = exact-as M₂ ls' (st.lines + 1) (leads_into M₂ q₂) x₂ (λ t a b. sym (same₂ t a b))
-                (rw number at (next-added (signals M₁) w.ls down l lo hi M₂ w.accepted₂ q₂ e₂));
+            first = exact-as M₁ ls' more'.count (leads_into M₁ q₁) x₁ (λ s a b. sym (same₁ s a b))
+                (rw (number, ← one) at (next-added (signals M₁) w.ls down l lo hi M₁ w.accepted₁ q₁ e₁));
+            second = exact-as M₂ ls' more'.count (leads_into M₂ q₂) x₂ (λ t a b. sym (same₂ t a b))
+                (rw (number, ← one) at (next-added (signals M₁) w.ls down l lo hi M₂ w.accepted₂ q₂ e₂));
           };
         }

@@ -9,7 +9,8 @@ use Rattle.truth.specs.Passed.{signals, nodes_most, signals_most, lines_written}
 use Rattle.comparison.specs.inner.Lines.{Entry, split, HoldsLines}
 use Rattle.comparison.specs.inner.Blocks.{Members, Split}
 use Rattle.comparison.specs.inner.Refinement.{LinesIn, Refinement, Parted, Lined}
-use Rattle.comparison.specs.inner.Tables.{State, first_of, second_of, line_of, Room, SplitBlock, OfNodes}
+use Rattle.comparison.specs.inner.Tables.{first_of, second_of, line_of, Room, SplitBlock, OfNodes}
+use Rattle.comparison.specs.declared.blocks.Partition.{Partition}
 use Rattle.comparison.specs.inner.Stages.{Staged, Ready}
 use Rattle.comparison.proofs.AddedLines.{entry-above}
 use Rattle.comparison.proofs.ExactLines.{exact-kept, split-down, split-length}
@@ -18,39 +19,18 @@ use Rattle.comparison.proofs.FewBlocks.{blocks-bounded}
 use Rattle.comparison.proofs.Parts.{part_members, part_lines, parted, lined}
 use Rattle.comparison.proofs.FinerBlocks.{finer-split}
 
-pub blocks-fit : (M₁ M₂ : List ℕ) (spare : ℕ) (st : State) → Staged M₁ M₂ spare st → st.count ≤ nodes_most
+pub blocks-fit : (M₁ M₂ : List ℕ) (spare : ℕ) (st : Partition) → Staged M₁ M₂ spare st → st.count ≤ nodes_most
 blocks-fit M₁ M₂ spare st s =
     blocks-bounded M₁ M₂ s.accepted₁ s.accepted₂ s.bounded s.ls st.count (line_of st) (first_of st) (second_of st) s.refinement
 
-pub lines_fit : (M₁ M₂ : List ℕ) (spare : ℕ) (st : State) → Staged M₁ M₂ spare st → st.lines + spare ≤ lines_written signals_most nodes_most
+pub lines_fit : (M₁ M₂ : List ℕ) (spare : ℕ) (st : Partition) → Staged M₁ M₂ spare st → st.lines.count + spare ≤ lines_written signals_most nodes_most
 lines_fit M₁ M₂ spare st s =
     let blocks = blocks-fit M₁ M₂ spare st s in
     let short = s.short in
     let few = s.refinement.down.few in
     omega arith
 
--- lines may be fewer
-pub staged-less : (M₁ M₂ : List ℕ) (n m : ℕ) (st : State) → m ≤ n → Staged M₁ M₂ n st → Staged M₁ M₂ m st
-staged-less M₁ M₂ n m st h s =
-    let short = s.short in
-    record {
-      accepted₁ = s.accepted₁;
-      accepted₂ = s.accepted₂;
-      bounded = s.bounded;
-      size₁ = s.size₁;
-      size₂ = s.size₂;
-      size_line = s.size_line;
-      ls = s.ls;
-      number = s.number;
-      holds = s.holds;
-      refinement = s.refinement;
-      of_nodes = s.of_nodes;
-      signal = s.signal;
-      below = s.below;
-      short = omega arith;
-    }
-
-module _ (M₁ M₂ : List ℕ) (spare : ℕ) (st : State) (p : ℕ) (x₁ x₂ : ℕ → Bool) (enough : 4 ≤ spare) (w : Ready M₁ M₂ spare st p x₁ x₂) (c : ℕ) (h : c < st.count)
+module _ (M₁ M₂ : List ℕ) (spare : ℕ) (st : Partition) (p : ℕ) (x₁ x₂ : ℕ → Bool) (enough : 4 ≤ spare) (w : Ready M₁ M₂ spare st p x₁ x₂) (c : ℕ) (h : c < st.count)
     (divides : Split M₁ M₂ (first_of st) (second_of st) c x₁ x₂) where
   -- with the parts in other members and lines
   split-refinement : (line' : ℕ → ℕ) (m₁' m₂' : Members) → Lined st.count c (length w.staged.ls) (line_of st) line'
@@ -87,7 +67,7 @@ module _ (M₁ M₂ : List ℕ) (spare : ℕ) (st : State) (p : ℕ) (x₁ x₂ 
         words = s.holds.size;
       }
 
-  module _ (st' : State) (b : SplitBlock st st' c p x₁ x₂) where
+  module _ (st' : Partition) (b : SplitBlock st st' c p x₁ x₂) where
     lines' : List Entry
     lines' = w.staged.ls ++ split (length w.staged.ls) (line_of st c) p
 
@@ -125,7 +105,7 @@ module _ (M₁ M₂ : List ℕ) (spare : ℕ) (st : State) (p : ℕ) (x₁ x₂ 
           size_line = b.line.size;
           ls = lines';
           number = omega arith;
-          holds = subst (λ (k : ℕ). HoldsLines st'.words (s.ls ++ split k (line_of st c) p)) (sym number) (b.words.adds s.ls number s.holds);
+          holds = subst (λ (k : ℕ). HoldsLines st'.lines.words (s.ls ++ split k (line_of st c) p)) (sym number) (b.words.adds s.ls number s.holds);
           refinement = refinement';
           of_nodes = λ d l.
               let o = (finer-split st st' c p x₁ x₂ h b).part d l in

@@ -1,7 +1,7 @@
 -- Whether a block has a start node, by the row of the start nodes that the code makes; and what two such tests say of a block.
 use mathlib.Core.Path.{◌≡◌, refl, sym, subst}
 use mathlib.Core.Logic.{inl, inr, ◌↔◌, ⊎_elim, by_cases}
-use Prim.Native.Nat.{ℕ, ◌+◌, ◌-◌, ◌≤◌, ◌<◌}
+use Prim.Native.Nat.{ℕ, ◌+◌, ◌≤◌, ◌<◌}
 use native.Mathlib.Omega.{arith}
 use native.Mathlib.Decide.{dec_lt}
 use mathlib.Core.List.{List}
@@ -12,6 +12,7 @@ use Rattle.truth.specs.Passed.{nodes, each, nodes_most}
 use Rattle.truth.proofs.Passed.{and_left, and_right, and_both, each_at, each_in, find, start-node}
 use Rattle.truth.proofs.labelling.StartRows.{start_test, start-tested, tested-start}
 use Rattle.comparison.specs.inner.Blocks.{Members, HasStart, OneStart}
+use Rattle.std.specs.Prelude.{Some}
 use Rattle.comparison.specs.inner.Sides.{OneSided}
 
 module _ (M : List ℕ) (small : nodes M ≤ nodes_most) (x : ℕ → Bool) (starts : (s : ℕ) → x s ≡ start_test M small s) where
@@ -62,20 +63,11 @@ one-start M₁ M₂ m₁ m₂ c false false f g n = absurd (true≢false (sym n)
 module _ (M₁ M₂ : List ℕ) (m₁ m₂ : Members) (few₁ : nodes M₁ ≤ nodes_most) (few₂ : nodes M₂ ≤ nodes_most) (x₁ x₂ : ℕ → Bool)
     (starts₁ : (s : ℕ) → x₁ s ≡ start_test M₁ few₁ s) (starts₂ : (s : ℕ) → x₂ s ≡ start_test M₂ few₂ s) where
   module _ (c : ℕ) (b₁ b₂ : Bool) (e₁ : b₁ ≡ not (each members_most (λ s. not (m₁ c s && x₁ s)))) (e₂ : b₂ ≡ not (each members_most (λ s. not (m₂ c s && x₂ s)))) where
-    pub side-found : (count : ℕ) → c < count → not (beq b₁ b₂) ≡ true → OneSided M₁ M₂ m₁ m₂ count (c + 1)
-    side-found count h n = record {
-      high = omega arith;
-      found = λ l.
-          let k : c ≡ c + 1 - 1 = omega arith in
-          subst (OneStart M₁ M₂ m₁ m₂) k (one-start M₁ M₂ m₁ m₂ c b₁ b₂ (has-start M₁ few₁ x₁ starts₁ m₁ c b₁ e₁) (has-start M₂ few₂ x₂ starts₂ m₂ c b₂ e₂) n);
-      none = λ z. absurd (omega arith);
-    }
+    pub side-found : (count : ℕ) → c < count → not (beq b₁ b₂) ≡ true → OneSided M₁ M₂ m₁ m₂ count (Some c)
+    side-found count h n = (h, one-start M₁ M₂ m₁ m₂ c b₁ b₂ (has-start M₁ few₁ x₁ starts₁ m₁ c b₁ e₁) (has-start M₂ few₂ x₂ starts₂ m₂ c b₂ e₂) n)
 
     pub side-agrees : not (beq b₁ b₂) ≡ false → ((b : ℕ) → b < c → HasStart M₁ m₁ b ↔ HasStart M₂ m₂ b) → (b : ℕ) → b < c + 1 → HasStart M₁ m₁ b ↔ HasStart M₂ m₂ b
     side-agrees n before b h =
         by_cases (dec_lt b c) (before b)
         (λ l. let k : c ≡ b = omega arith in
         subst (λ (b : ℕ). HasStart M₁ m₁ b ↔ HasStart M₂ m₂ b) k (agree b₁ b₂ (has-start M₁ few₁ x₁ starts₁ m₁ c b₁ e₁) (has-start M₂ few₂ x₂ starts₂ m₂ c b₂ e₂) n))
-
-pub side-none : (M₁ M₂ : List ℕ) (m₁ m₂ : Members) (count c : ℕ) → count ≤ c → ((b : ℕ) → b < c → HasStart M₁ m₁ b ↔ HasStart M₂ m₂ b) → OneSided M₁ M₂ m₁ m₂ count 0
-side-none M₁ M₂ m₁ m₂ count c h all = record { high = omega arith; found = λ l. absurd (omega arith); none = λ z b l. all b (omega arith) }

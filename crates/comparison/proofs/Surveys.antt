@@ -1,13 +1,14 @@
 -- Loops over the nodes of a row, and what the signatures of a block's nodes tell of it.
 use mathlib.Core.Path.{◌≡◌, refl, sym, subst, ◌∙◌}
-use mathlib.Core.Logic.{◌⊎◌, ◌≢◌, inl, inr, ⊎_elim, by_cases}
+use mathlib.Core.Logic.{◌⊎◌, inl, inr, ⊎_elim, by_cases}
 use Prim.Native.Nat.{ℕ, ◌≤◌}
 use mathlib.Core.List.{List}
 use mathlib.Core.Bool.{Bool, true, false, not, ◌&&◌, ◌||◌}
 use lib.Dec.{T, T_not, not_T}
 use Rattle.truth.specs.Sizes.{members_most}
 use Rattle.truth.specs.Passed.{each}
-use Rattle.truth.specs.inner.Rows.{row_has, marks_into, First}
+use Rattle.truth.specs.inner.Rows.{row_has, marks_into, Lowest}
+use Rattle.std.specs.Prelude.{Option, None, Some}
 use Rattle.truth.specs.declared.rows.Row.{Row}
 use Rattle.truth.proofs.Passed.{and_left, and_right, and_both, dec-test}
 use Rattle.truth.proofs.rows.RowLaws.{none_passes}
@@ -57,8 +58,8 @@ module _ (M₁ M₂ : List ℕ) (m₁ m₂ : Members) (c : ℕ) (row₁ row₂ :
           (λ x. inr (λ s i. absurd (n (here s i.2)), λ t i. rw (at₂ t i.2) (not_T (x₂ a.node) x)))
 
   module _ (mark₁ mark₂ : List ℕ) where
-    pub mark-alone : Alone row₁ row₂ → TellsMark M₁ M₂ m₁ m₂ mark₁ mark₂ c 0
-    mark-alone a = record { none = λ z e. unsplit-alone a (λ s. marks_into M₁ mark₁ s e) (λ t. marks_into M₂ mark₂ t e); found = λ n. absurd (n refl) }
+    pub mark-alone : Alone row₁ row₂ → TellsMark M₁ M₂ m₁ m₂ mark₁ mark₂ c None
+    mark-alone a e = unsplit-alone a (λ s. marks_into M₁ mark₁ s e) (λ t. marks_into M₂ mark₂ t e)
 
 -- ---- a leader, and the nodes that are unlike it
 
@@ -68,7 +69,7 @@ module _ (M₁ M₂ mark₁ mark₂ : List ℕ) (row₁ row₂ : ℕ → Bool) (
 
   module _ (m₁ m₂ : Members) (c : ℕ) (e₁ : (s : ℕ) → row₁ s ≡ m₁ c s) (e₂ : (t : ℕ) → row₂ t ≡ m₂ c t) (low₁ : (s : ℕ) → T (row₁ s) → 1 ≤ s) (low₂ : (t : ℕ) → T (row₂ t) → 1 ≤ t) where
     -- none is
-    all-like : ((s : ℕ) → T (row_has lead.rest1 s) → (e : ℕ) → marks_into M₁ mark₁ s e ≡ l e) → ((t : ℕ) → T (row_has lead.rest2 t) → (e : ℕ) → marks_into M₂ mark₂ t e ≡ l e)
+    all-like : ((s : ℕ) → T (row_has lead.rest.first s) → (e : ℕ) → marks_into M₁ mark₁ s e ≡ l e) → ((t : ℕ) → T (row_has lead.rest.second t) → (e : ℕ) → marks_into M₂ mark₂ t e ≡ l e)
         → (e : ℕ) → Unsplit M₁ M₂ m₁ m₂ c (λ s. marks_into M₁ mark₁ s e) (λ t. marks_into M₂ mark₂ t e)
     unfolding Unsplit AllIn In
     all-like u₁ u₂ e = by_cases (dec-test (l e))
@@ -111,32 +112,28 @@ module _ (M₁ M₂ mark₁ mark₂ : List ℕ) (row₁ row₂ : ℕ → Bool) (
             (λ t. (lead-meets (λ b. b) t some, other not (not_T (not (l r)) (λ z. T_not (l r) z t))))
             (λ f. (other (λ b. b) (not_T (l r) f), lead-meets not (not_T (l r) f) some))
 
-      pub unlike-first : r ≢ 0 → TellsUnlike M₁ mark₁ (row_has lead.rest1) l r → TellsMark M₁ M₂ m₁ m₂ mark₁ mark₂ c r
+      pub unlike-first : TellsUnlike M₁ mark₁ (row_has lead.rest.first) l (Some r) → TellsMark M₁ M₂ m₁ m₂ mark₁ mark₂ c (Some r)
       unfolding Meets
-      unlike-first n u = record {
-        none = λ z. absurd (n z);
-        found = λ f o.
-            let k = u.found n in
-            split_by o (λ none. none.0 k.0 (led.fewer₁ k.0 k.1))
-            (λ y t. inl (k.0, at₁ o k.0 (led.fewer₁ k.0 k.1), subst (λ (b : Bool). T (y b)) (sym k.2) t));
-      }
+      unlike-first k o =
+          split_by o (λ none. none.0 k.0 (led.fewer₁ k.0 k.1))
+          (λ y t. inl (k.0, at₁ o k.0 (led.fewer₁ k.0 k.1), subst (λ (b : Bool). T (y b)) (sym k.2) t))
 
-      pub unlike-second : (q : ℕ) → q ≡ 0 → TellsUnlike M₁ mark₁ (row_has lead.rest1) l q → TellsUnlike M₂ mark₂ (row_has lead.rest2) l r
-          → TellsMark M₁ M₂ m₁ m₂ mark₁ mark₂ c r
+      unlike-other : TellsUnlike M₂ mark₂ (row_has lead.rest.second) l (Some r) → TellsMark M₁ M₂ m₁ m₂ mark₁ mark₂ c (Some r)
       unfolding Meets
-      unlike-second q e v u = record {
-        none = λ z. all-like (v.none e) (u.none z);
-        found = λ n o.
-            let k = u.found n in
-            split_by o (λ none. none.1 k.0 (led.fewer₂ k.0 k.1))
-            (λ y t. inr (k.0, at₂ o k.0 (led.fewer₂ k.0 k.1), subst (λ (b : Bool). T (y b)) (sym k.2) t));
-      }
+      unlike-other k o =
+          split_by o (λ none. none.1 k.0 (led.fewer₂ k.0 k.1))
+          (λ y t. inr (k.0, at₂ o k.0 (led.fewer₂ k.0 k.1), subst (λ (b : Bool). T (y b)) (sym k.2) t))
+
+    pub unlike-second : (r : Option ℕ) → TellsUnlike M₁ mark₁ (row_has lead.rest.first) l None → TellsUnlike M₂ mark₂ (row_has lead.rest.second) l r
+        → TellsMark M₁ M₂ m₁ m₂ mark₁ mark₂ c r
+    unlike-second None v u = all-like v u
+    unlike-second (Some r) v u = unlike-other r u
 
 -- ---- a leader is taken
 
 module _ (M₁ M₂ mark₁ mark₂ : List ℕ) (row₁ row₂ : ℕ → Bool) (m r₁ r₂ : Row) where
   pub led-first : (s : ℕ) → T (row₁ s) → ((e : ℕ) → row_has m e ≡ marks_into M₁ mark₁ s e) → Less row₁ s (row_has r₁) → ((t : ℕ) → row₂ t ≡ row_has r₂ t)
-      → Led M₁ M₂ mark₁ mark₂ row₁ row₂ (record { marks = m; rest1 = r₁; rest2 = r₂ })
+      → Led M₁ M₂ mark₁ mark₂ row₁ row₂ (record { marks = m; rest = record { first = r₁; second = r₂ } })
   led-first s t is less other = record {
     leads = inl (s, t, λ e. sym (is e));
     fewer₁ = less-in row₁ (row_has r₁) s less;
@@ -149,7 +146,7 @@ module _ (M₁ M₂ mark₁ mark₂ : List ℕ) (row₁ row₂ : ℕ → Bool) (
       at-s i q = inr (λ e. subst (λ (k : ℕ). marks_into M₁ mark₁ k e ≡ row_has m e) (sym q) (sym (is e)))
 
   pub led-second : (s : ℕ) → T (row₂ s) → ((e : ℕ) → row_has m e ≡ marks_into M₂ mark₂ s e) → Less row₂ s (row_has r₂) → ((t : ℕ) → row₁ t ≡ row_has r₁ t)
-      → Led M₁ M₂ mark₁ mark₂ row₁ row₂ (record { marks = m; rest1 = r₁; rest2 = r₂ })
+      → Led M₁ M₂ mark₁ mark₂ row₁ row₂ (record { marks = m; rest = record { first = r₁; second = r₂ } })
   led-second s t is less other = record {
     leads = inr (inl (s, t, λ e. sym (is e)));
     fewer₁ = λ i x. rw (other i) x;
@@ -162,7 +159,7 @@ module _ (M₁ M₂ mark₁ mark₂ : List ℕ) (row₁ row₂ : ℕ → Bool) (
       at-s i q = inr (λ e. subst (λ (k : ℕ). marks_into M₂ mark₂ k e ≡ row_has m e) (sym q) (sym (is e)))
 
   pub led-none : ((s : ℕ) → T (row₁ s) → ⊥) → ((t : ℕ) → T (row₂ t) → ⊥) → ((t : ℕ) → row₁ t ≡ row_has r₁ t) → ((t : ℕ) → row₂ t ≡ row_has r₂ t)
-      → Led M₁ M₂ mark₁ mark₂ row₁ row₂ (record { marks = m; rest1 = r₁; rest2 = r₂ })
+      → Led M₁ M₂ mark₁ mark₂ row₁ row₂ (record { marks = m; rest = record { first = r₁; second = r₂ } })
   led-none n₁ n₂ o₁ o₂ = record {
     leads = inr (inr (n₁, n₂));
     fewer₁ = λ i x. rw (o₁ i) x;
@@ -172,27 +169,26 @@ module _ (M₁ M₂ mark₁ mark₂ : List ℕ) (row₁ row₂ : ℕ → Bool) (
   }
 
 -- ---- a mark in which two sets differ
-pub tells-apart : (a b p q w : ℕ → Bool) → ((e : ℕ) → p e ≡ (a e && not (b e))) → ((e : ℕ) → q e ≡ (b e && not (a e))) → ((e : ℕ) → w e ≡ (p e || q e))
-    → (r : ℕ) → First w r → TellsApart a b r
-tells-apart a b p q w ep eq ew r f = record {
-  none = λ z e. alike (a e) (b e) (sym (together e) ∙ f.none z e);
-  found = λ n. differ (a r) (b r) (sym (together r) ∙ f.found n);
-}
-  where
-    together : (e : ℕ) → w e ≡ ((a e && not (b e)) || (b e && not (a e)))
-    together e = ew e ∙ rw (ep e, eq e)
+module _ (a b p q : ℕ → Bool) (w : Row) (ep : (e : ℕ) → p e ≡ (a e && not (b e))) (eq : (e : ℕ) → q e ≡ (b e && not (a e)))
+    (ew : (e : ℕ) → row_has w e ≡ (p e || q e)) where
+  together : (e : ℕ) → row_has w e ≡ ((a e && not (b e)) || (b e && not (a e)))
+  together e = ew e ∙ rw (ep e, eq e)
 
-    alike : (x y : Bool) → ((x && not y) || (y && not x)) ≡ false → x ≡ y
-    alike true true e = refl
-    alike true false e = e
-    alike false true e = sym e
-    alike false false e = refl
+  alike : (x y : Bool) → (T ((x && not y) || (y && not x)) → ⊥) → x ≡ y
+  alike true true n = refl
+  alike true false n = absurd (n tt)
+  alike false true n = absurd (n tt)
+  alike false false n = refl
 
-    differ : (x y : Bool) → ((x && not y) || (y && not x)) ≡ true → x ≡ not y
-    differ true true e = sym e
-    differ true false e = refl
-    differ false true e = refl
-    differ false false e = e
+  differ : (x y : Bool) → T ((x && not y) || (y && not x)) → x ≡ not y
+  differ true true t = absurd t
+  differ true false t = refl
+  differ false true t = refl
+  differ false false t = absurd t
+
+  pub tells-apart : (r : Option ℕ) → Lowest w r → TellsApart a b r
+  tells-apart None none = λ e. alike (a e) (b e) (λ t. none e (rw (together e) t))
+  tells-apart (Some r) first = differ (a r) (b r) (rw (together r) at first.is_in)
 
 -- ---- the loop over nodes that are like l: those that are not left
 pub record Liked (M mark : List ℕ) (row l left : ℕ → Bool) : Type 0 where
@@ -212,8 +208,8 @@ module _ (M mark : List ℕ) (row l : ℕ → Bool) where
       is-u : (s : ℕ) → s ≡ u → T (left' s) ⊎ ((e : ℕ) → marks_into M mark s e ≡ l e)
       is-u s q = inr (λ e. subst (λ (k : ℕ). marks_into M mark k e ≡ l e) (sym q) (is e))
 
-  pub liked-end : (left : ℕ → Bool) → Liked M mark row l left → ((s : ℕ) → T (left s) → ⊥) → TellsUnlike M mark row l 0
-  liked-end left g none = record { none = λ z s t. ⊎_elim (λ x. absurd (none s x)) (λ k. k) (g.like s t); found = λ n. absurd (n refl) }
+  pub liked-end : (left : ℕ → Bool) → Liked M mark row l left → ((s : ℕ) → T (left s) → ⊥) → TellsUnlike M mark row l None
+  liked-end left g none s t = ⊎_elim (λ x. absurd (none s x)) (λ k. k) (g.like s t)
 
-  pub liked-not : (left : ℕ → Bool) (u r : ℕ) → Liked M mark row l left → T (left u) → r ≢ 0 → marks_into M mark u r ≡ not (l r) → TellsUnlike M mark row l r
-  liked-not left u r g t n d = record { none = λ z. absurd (n z); found = λ f. (u, g.fewer u t, d) }
+  pub liked-not : (left : ℕ → Bool) (u r : ℕ) → Liked M mark row l left → T (left u) → marks_into M mark u r ≡ not (l r) → TellsUnlike M mark row l (Some r)
+  liked-not left u r g t d = (u, g.fewer u t, d)

@@ -1,6 +1,6 @@
 -- A turn: the loop that splits every block by the marks in which its nodes differ.
 use mathlib.Core.Path.{◌≡◌, refl, sym, subst}
-use mathlib.Core.Logic.{◌≢◌, ⊎_elim, by_cases}
+use mathlib.Core.Logic.{⊎_elim, by_cases}
 use Prim.Native.Nat.{ℕ, ◌+◌, ◌-◌, ◌≤◌, ◌<◌}
 use native.Mathlib.Decide.{ℕ_discrete}
 use native.Mathlib.Omega.{arith}
@@ -12,11 +12,14 @@ use Rattle.truth.specs.Passed.{nodes, within, nodes_most}
 use Rattle.truth.specs.inner.Rows.{marks_into, leads_into}
 use Rattle.truth.proofs.Passed.{and_both, or_left, within_in}
 use Rattle.truth.proofs.rows.RowLaws.{held_in}
-use Rattle.comparison.specs.inner.Lines.{next, Adds}
+use Rattle.comparison.specs.inner.Lines.{next, Pushed}
 use Rattle.comparison.specs.inner.Blocks.{In, Meets, Unsplit, Split}
 use Rattle.comparison.specs.inner.Refinement.{LinesIn}
-use Rattle.comparison.specs.inner.Tables.{State, first_of, second_of, line_of, written, Room, SplitBlock, OfNodes}
+use Rattle.comparison.specs.inner.Tables.{first_of, second_of, line_of, written, Room, SplitBlock, OfNodes}
+use Rattle.comparison.specs.declared.blocks.Partition.{Partition}
 use Rattle.comparison.specs.inner.Stages.{Staged, Ready, Finer}
+use Rattle.comparison.specs.declared.writing.Written.{Written}
+use Rattle.std.specs.Prelude.{None, Some}
 use Rattle.comparison.specs.inner.Signatures.{MarkedRow, BlockMarks, MarksIn, TellsMark, Turned}
 use Rattle.comparison.proofs.FinerBlocks.{unsplit-as, split-as, finer-none, finer-then, finer-split}
 use Rattle.comparison.proofs.StagedSplits.{blocks-fit, room, ready-again}
@@ -28,7 +31,7 @@ four : 4 ≤ 4
 four = omega arith
 
 -- st has become st', whose blocks have their marks; and if it has no block more, no "some next" of a block splits a block before c
-pub record Turning (M₁ M₂ : List ℕ) (st st' : State) (mark₁ mark₂ : List ℕ) (all : ℕ → Bool) (c : ℕ) : Type 0 where
+pub record Turning (M₁ M₂ : List ℕ) (st st' : Partition) (mark₁ mark₂ : List ℕ) (all : ℕ → Bool) (c : ℕ) : Type 0 where
   pub staged : Staged M₁ M₂ 5 st'
   pub finer : Finer st st'
   pub marked₁ : BlockMarks (first_of st') st'.count mark₁
@@ -38,7 +41,7 @@ pub record Turning (M₁ M₂ : List ℕ) (st st' : State) (mark₁ mark₂ : Li
   pub done : st'.count ≡ st.count → (b d : ℕ) → b < c → d < st'.count
       → Unsplit M₁ M₂ (first_of st') (second_of st') b (leads_into M₁ (first_of st' d)) (leads_into M₂ (second_of st' d))
 
-module _ (M₁ M₂ : List ℕ) (st : State) where
+module _ (M₁ M₂ : List ℕ) (st : Partition) where
   pub turning-none : Staged M₁ M₂ 5 st → (mark₁ mark₂ : List ℕ) (all : ℕ → Bool) → BlockMarks (first_of st) st.count mark₁ → BlockMarks (second_of st) st.count mark₂
       → ((e : ℕ) → all e ≡ (leb e st.count && within 1 members_most e)) → Turning M₁ M₂ st st mark₁ mark₂ all 0
   turning-none w mark₁ mark₂ all k₁ k₂ q =
@@ -53,7 +56,7 @@ module _ (M₁ M₂ : List ℕ) (st : State) where
         done = λ z b d l h. absurd (omega arith);
       }
 
-  module _ (st' : State) (mark₁ mark₂ : List ℕ) (all : ℕ → Bool) (c : ℕ) (t : Turning M₁ M₂ st st' mark₁ mark₂ all c) where
+  module _ (st' : Partition) (mark₁ mark₂ : List ℕ) (all : ℕ → Bool) (c : ℕ) (t : Turning M₁ M₂ st st' mark₁ mark₂ all c) where
     pub turning-end : st'.count ≤ c → Turned M₁ M₂ st st'
     turning-end h = record { staged = t.staged; finer = t.finer; done = λ z b d l k. t.done z b d (omega arith) k }
 
@@ -92,90 +95,89 @@ module _ (M₁ M₂ : List ℕ) (st : State) where
                 t.every e g.0 g.1,
           )
 
-      module _ (e : ℕ) (tells : TellsMark M₁ M₂ (first_of st') (second_of st') mark₁ mark₂ c e) where
-        -- block c is not split
-        pub turning-on : e ≡ 0 → Turning M₁ M₂ st st' mark₁ mark₂ all (c + 1)
-        turning-on z = record {
-          staged = t.staged;
-          finer = t.finer;
-          marked₁ = t.marked₁;
-          marked₂ = t.marked₂;
-          every = t.every;
-          high = omega arith;
-          done = λ q b d l k. by_cases (ℕ_discrete b c)
-              (λ i. subst (λ (j : ℕ). Unsplit M₁ M₂ (first_of st') (second_of st') j (leads_into M₁ (first_of st' d)) (leads_into M₂ (second_of st' d))) (sym i)
-              (unsplit-as M₁ M₂ (first_of st') (second_of st') c (λ s. marks_into M₁ mark₁ s (d + 1)) (λ t. marks_into M₂ mark₂ t (d + 1))
-              (leads_into M₁ (first_of st' d)) (leads_into M₂ (second_of st' d)) (same₁ d k) (same₂ d k) (tells.none z (d + 1))))
-              (λ f. t.done q b d (omega arith) k);
-        }
+      -- block c is not split
+      pub turning-on : TellsMark M₁ M₂ (first_of st') (second_of st') mark₁ mark₂ c None → Turning M₁ M₂ st st' mark₁ mark₂ all (c + 1)
+      turning-on tells = record {
+        staged = t.staged;
+        finer = t.finer;
+        marked₁ = t.marked₁;
+        marked₂ = t.marked₂;
+        every = t.every;
+        high = omega arith;
+        done = λ q b d l k. by_cases (ℕ_discrete b c)
+            (λ i. subst (λ (j : ℕ). Unsplit M₁ M₂ (first_of st') (second_of st') j (leads_into M₁ (first_of st' d)) (leads_into M₂ (second_of st' d))) (sym i)
+            (unsplit-as M₁ M₂ (first_of st') (second_of st') c (λ s. marks_into M₁ mark₁ s (d + 1)) (λ t. marks_into M₂ mark₂ t (d + 1))
+            (leads_into M₁ (first_of st' d)) (leads_into M₂ (second_of st' d)) (same₁ d k) (same₂ d k) (tells (d + 1))))
+            (λ f. t.done q b d (omega arith) k);
+      }
 
-        -- it is split by the mark e
-        module _ (n : e ≢ 0) where
-          by-mark : Split M₁ M₂ (first_of st') (second_of st') c (λ s. marks_into M₁ mark₁ s e) (λ t. marks_into M₂ mark₂ t e)
-          by-mark = tells.found n (t.staged.of_nodes c h)
+      -- it is split by the mark e
+      module _ (e : ℕ) (tells : TellsMark M₁ M₂ (first_of st') (second_of st') mark₁ mark₂ c (Some e)) where
+        by-mark : Split M₁ M₂ (first_of st') (second_of st') c (λ s. marks_into M₁ mark₁ s e) (λ t. marks_into M₂ mark₂ t e)
+        by-mark = tells (t.staged.of_nodes c h)
 
-          pub mark-in : (1 ≤ e) × (e ≤ st'.count) × (e ≤ nodes_most)
-          unfolding Split Meets In
-          mark-in =
-              let fit = blocks-fit M₁ M₂ 5 st' t.staged in
-              let g : (1 ≤ e) × (e ≤ st'.count) = ⊎_elim (λ m. high₁ m.0 m.1.0 m.1.1 e m.2) (λ m. high₂ m.0 m.1.0 m.1.1 e m.2) by-mark.0 in
-              (g.0, g.1, omega arith)
+        pub mark-in : (1 ≤ e) × (e ≤ st'.count) × (e ≤ nodes_most)
+        unfolding Split Meets In
+        mark-in =
+            let fit = blocks-fit M₁ M₂ 5 st' t.staged in
+            let g : (1 ≤ e) × (e ≤ st'.count) = ⊎_elim (λ m. high₁ m.0 m.1.0 m.1.1 e m.2) (λ m. high₂ m.0 m.1.0 m.1.1 e m.2) by-mark.0 in
+            (g.0, g.1, omega arith)
 
-          abbrev x₁ : ℕ → Bool
-          x₁ = leads_into M₁ (first_of st' (e - 1))
+        abbrev x₁ : ℕ → Bool
+        x₁ = leads_into M₁ (first_of st' (e - 1))
 
-          abbrev x₂ : ℕ → Bool
-          x₂ = leads_into M₂ (second_of st' (e - 1))
+        abbrev x₂ : ℕ → Bool
+        x₂ = leads_into M₂ (second_of st' (e - 1))
 
-          below : e - 1 < st'.count
-          below = omega (arith, mark-in)
+        below : e - 1 < st'.count
+        below = omega (arith, mark-in)
 
-          at₁ : (s : ℕ) → 1 ≤ s → s ≤ nodes M₁ → marks_into M₁ mark₁ s e ≡ x₁ s
-          at₁ s lo hi = let q : e - 1 + 1 ≡ e = omega (arith, mark-in) in rw q at (same₁ (e - 1) below s lo hi)
+        at₁ : (s : ℕ) → 1 ≤ s → s ≤ nodes M₁ → marks_into M₁ mark₁ s e ≡ x₁ s
+        at₁ s lo hi = let q : e - 1 + 1 ≡ e = omega (arith, mark-in) in rw q at (same₁ (e - 1) below s lo hi)
 
-          at₂ : (s : ℕ) → 1 ≤ s → s ≤ nodes M₂ → marks_into M₂ mark₂ s e ≡ x₂ s
-          at₂ s lo hi = let q : e - 1 + 1 ≡ e = omega (arith, mark-in) in rw q at (same₂ (e - 1) below s lo hi)
+        at₂ : (s : ℕ) → 1 ≤ s → s ≤ nodes M₂ → marks_into M₂ mark₂ s e ≡ x₂ s
+        at₂ s lo hi = let q : e - 1 + 1 ≡ e = omega (arith, mark-in) in rw q at (same₂ (e - 1) below s lo hi)
 
-          divides : Split M₁ M₂ (first_of st') (second_of st') c x₁ x₂
-          divides = split-as M₁ M₂ (first_of st') (second_of st') c (λ s. marks_into M₁ mark₁ s e) (λ t. marks_into M₂ mark₂ t e) x₁ x₂ at₁ at₂ by-mark
+        divides : Split M₁ M₂ (first_of st') (second_of st') c x₁ x₂
+        divides = split-as M₁ M₂ (first_of st') (second_of st') c (λ s. marks_into M₁ mark₁ s e) (λ t. marks_into M₂ mark₂ t e) x₁ x₂ at₁ at₂ by-mark
 
-          module _ (words : List ℕ) (adds : Adds st'.words words st'.lines (next (line_of st' (e - 1)) ∷ [])) where
-            ready : Ready M₁ M₂ 4 (written st' words) (st'.lines + 1) x₁ x₂
-            unfolding LinesIn
-            ready =
-                let r = t.staged.refinement in
-                ready-written M₁ M₂ st' t.staged (line_of st' (e - 1)) (r.lines (e - 1) below).0 (r.lines (e - 1) below).1 words adds
-                (first_of st' (e - 1)) (second_of st' (e - 1)) x₁ x₂ (r.first.exact (e - 1) below) (r.second.exact (e - 1) below) (λ s lo hi. refl) (λ s lo hi. refl)
+        module _ (more : Written) (pushed : Pushed st'.lines more (next (line_of st' (e - 1)) ∷ [])) where
+          ready : Ready M₁ M₂ 4 (written st' more) more.count x₁ x₂
+          unfolding LinesIn
+          ready =
+              let r = t.staged.refinement in
+              ready-written M₁ M₂ st' t.staged (line_of st' (e - 1)) (r.lines (e - 1) below).0 (r.lines (e - 1) below).1 more pushed
+              (first_of st' (e - 1)) (second_of st' (e - 1)) x₁ x₂ (r.first.exact (e - 1) below) (r.second.exact (e - 1) below) (λ s lo hi. refl) (λ s lo hi. refl)
 
-            pub turning-room : Room (written st' words) c
-            turning-room = room M₁ M₂ 4 (written st' words) (st'.lines + 1) x₁ x₂ four ready c h divides
+          pub turning-room : Room (written st' more) c
+          turning-room = room M₁ M₂ 4 (written st' more) more.count x₁ x₂ four ready c h divides
 
-            pub turning-more : (st'' : State) (mark₁' mark₂' : List ℕ) (all' : ℕ → Bool) → SplitBlock (written st' words) st'' c (st'.lines + 1) x₁ x₂
-                → MarkedRow (first_of st'' (st''.count - 1)) (st''.count - 1 + 1) mark₁ mark₁' → MarkedRow (second_of st'' (st''.count - 1)) (st''.count - 1 + 1) mark₂ mark₂'
-                → ((i : ℕ) → all' i ≡ (all i || (within 1 members_most st''.count && eqb i st''.count))) → Turning M₁ M₂ st st'' mark₁' mark₂' all' c
-            turning-more st'' mark₁' mark₂' all' b r₁ r₂ q =
-                let now = written st' words in
-                let p = st'.lines + 1 in
-                let again = ready-again M₁ M₂ 4 now p x₁ x₂ four ready c h divides st'' b in
-                let same_blocks : Finer st now = record { more = t.finer.more; part = t.finer.part } in
-                let more = b.count in
-                let wide = t.finer.more in
-                let high = t.high in
-                let fit = blocks-fit M₁ M₂ 5 st'' again.staged in
-                let last : st''.count - 1 ≡ st'.count = omega arith in
-                record {
-                  staged = again.staged;
-                  finer = finer-then st now st'' same_blocks (finer-split now st'' c p x₁ x₂ h b);
-                  marked₁ = subst (λ (k : ℕ). BlockMarks (first_of st'') k mark₁') (sym more)
-                      (marked-split (first_of st') (first_of st'') st'.count c x₁ mark₁ mark₁' h b.first.parted t.marked₁
-                      (subst (λ (k : ℕ). MarkedRow (first_of st'' k) (k + 1) mark₁ mark₁') last r₁));
-                  marked₂ = subst (λ (k : ℕ). BlockMarks (second_of st'') k mark₂') (sym more)
-                      (marked-split (second_of st') (second_of st'') st'.count c x₂ mark₂ mark₂' h b.second.parted t.marked₂
-                      (subst (λ (k : ℕ). MarkedRow (second_of st'' k) (k + 1) mark₂ mark₂') last r₂));
-                  every = λ e lo hi. rw (q e) (by_cases (ℕ_discrete e st''.count)
-                      (λ i. or_right (all e) (within 1 members_most st''.count && eqb e st''.count)
-                      (and_both (within 1 members_most st''.count) (eqb e st''.count) (within_in 1 members_most st''.count (omega arith) fit) (subst (λ (k : ℕ). T (eqb e k)) i (eqb_refl e))))
-                      (λ f. or_left (all e) (within 1 members_most st''.count && eqb e st''.count) (t.every e lo (omega arith))));
-                  high = omega arith;
-                  done = λ z. absurd (omega arith);
-                }
+          pub turning-more : (st'' : Partition) (mark₁' mark₂' : List ℕ) (all' : ℕ → Bool) → SplitBlock (written st' more) st'' c more.count x₁ x₂
+              → MarkedRow (first_of st'' (st''.count - 1)) st''.count mark₁ mark₁' → MarkedRow (second_of st'' (st''.count - 1)) st''.count mark₂ mark₂'
+              → ((i : ℕ) → all' i ≡ (all i || (within 1 members_most st''.count && eqb i st''.count))) → Turning M₁ M₂ st st'' mark₁' mark₂' all' c
+          turning-more st'' mark₁' mark₂' all' b r₁ r₂ q =
+              let now = written st' more in
+              let p = more.count in
+              let again = ready-again M₁ M₂ 4 now p x₁ x₂ four ready c h divides st'' b in
+              let same_blocks : Finer st now = record { more = t.finer.more; part = t.finer.part } in
+              let one : st''.count ≡ st'.count + 1 = b.count in
+              let wide = t.finer.more in
+              let high = t.high in
+              let fit = blocks-fit M₁ M₂ 5 st'' again.staged in
+              let last : st''.count - 1 ≡ st'.count = omega arith in
+              record {
+                staged = again.staged;
+                finer = finer-then st now st'' same_blocks (finer-split now st'' c p x₁ x₂ h b);
+                marked₁ = subst (λ (k : ℕ). BlockMarks (first_of st'') k mark₁') (sym one)
+                    (marked-split (first_of st') (first_of st'') st'.count c x₁ mark₁ mark₁' h b.first.parted t.marked₁
+                    (rw (last, one) at r₁));
+                marked₂ = subst (λ (k : ℕ). BlockMarks (second_of st'') k mark₂') (sym one)
+                    (marked-split (second_of st') (second_of st'') st'.count c x₂ mark₂ mark₂' h b.second.parted t.marked₂
+                    (rw (last, one) at r₂));
+                every = λ e lo hi. rw (q e) (by_cases (ℕ_discrete e st''.count)
+                    (λ i. or_right (all e) (within 1 members_most st''.count && eqb e st''.count)
+                    (and_both (within 1 members_most st''.count) (eqb e st''.count) (within_in 1 members_most st''.count (omega arith) fit) (subst (λ (k : ℕ). T (eqb e k)) i (eqb_refl e))))
+                    (λ f. or_left (all e) (within 1 members_most st''.count && eqb e st''.count) (t.every e lo (omega arith))));
+                high = omega arith;
+                done = λ z. absurd (omega arith);
+              }

@@ -1,6 +1,7 @@
 // The comparison: its questions, its answer, and the rule that tells the two machines apart.
 ghost use Rattle.std.specs.Prelude.{◌≡◌, ℕ, ◌+◌, ◌*◌, ◌<◌, ◌≤◌, not, ◌&&◌, List, ◌++◌, length, drop};
 ghost use Rattle.std.proofs.Math.Seq.{paste};
+ghost use Rattle.truth.specs.Passed.{Answered};
 ghost use Rattle.truth.specs.Sizes.{members_most};
 ghost use Rattle.truth.specs.Passed.{nodes_most, line_words, next_head};
 ghost use Rattle.truth.specs.Passed as Passed;
@@ -12,18 +13,17 @@ ghost use Rattle.comparison.specs.inner.Needed.{Listed, Shortened};
 ghost use Rattle.comparison.specs.inner.Sides.{OneSided};
 ghost use Rattle.comparison.specs.CompareAnswers.{comparison_questions, CompareAnswer};
 
+use crate::blocks::Partition;
 use crate::needed::shorten;
 use crate::refine::refine;
 use crate::sizes;
-use crate::writing::write_not;
-use truth::rows::Row;
-use truth::tables::load;
+use crate::writing::{Line, Written, copy};
+use truth::header::{CallQuestion, Refusal, Side};
 use truth::{header, structure};
 
-// The answer: refused by a question, with the number of the machine sheet for questions 1 to 6; equal; or unequal.
-#[derive(Clone, Copy)]
+// What comparison says of two machines.
+#[derive(Clone, Copy, Debug, PartialEq, Eq)]
 pub enum Answer {
-    Refused { question: u16, sheet: u16 },
     Equal,
     Unequal,
 }
@@ -65,98 +65,59 @@ const NEXT: [u16; sizes::NEXT_HEAD] = [
     0,
 ];
 
-// The first question of a comparison that says no, and the machine sheet that it is put to; question 0 where none says no.
-#[derive(Clone, Copy)]
-pub struct FirstNo {
-    pub question: u16,
-    pub sheet: u16,
-}
-
-// The number of the first of questions 20 to 22 that says no, 0 where none does, for a space of so many words.
-fn last_refusal(m1: &[u16], m2: &[u16], space: usize) -> u16
-    ensures { result ≡ (Passed.first_no (Comparison.compare_questions m1.now m2.now space)).number }
+// Questions 1 to 6 of the second sheet.
+fn check_second(m: &[u16]) -> Result<(), Refusal>
+    ensures { Answered (Passed.machine_questions 2 m.now) result }
 {
-    let a = header::signals(m1);
-    if a != header::signals(m2) {
-        return 20;
-    }
-    let n = header::nodes(m1) as usize + header::nodes(m2) as usize;
-    if n > sizes::NODES {
-        return 21;
-    }
-    if space < header::rule_space(a, n as u16) {
-        return 22;
-    }
-    0
+    header::check(m).map_err(|question| Refusal::Machine(Side::Second, question))
 }
 
-// The first question of a comparison that says no, for a space of so many words.
-fn compare_refusal(m1: &[u16], m2: &[u16], space: usize) -> FirstNo
-    ensures { (result.question ≡ (Passed.first_no (comparison_questions m1.now m2.now space)).number) × (result.sheet ≡ (Passed.first_no (comparison_questions m1.now m2.now space)).sheet) }
+// Questions 20 to 22, in order, for a space of so many words.
+fn check_together(m1: &[u16], m2: &[u16], space: usize) -> Result<(), Refusal>
+    ensures { Answered (Comparison.compare_questions m1.now m2.now space) result }
 {
-    let first = header::machine_refusal(m1);
-    if first != 0 {
-        return FirstNo {
-            question: first,
-            sheet: 1,
-        };
+    let signals = header::signals(m1);
+    if signals != header::signals(m2) {
+        return Err(Refusal::Call(CallQuestion::SameSignals));
     }
-    let second = header::machine_refusal(m2);
-    if second != 0 {
-        return FirstNo {
-            question: second,
-            sheet: 2,
-        };
+    let nodes = header::nodes(m1) as usize + header::nodes(m2) as usize;
+    if nodes > sizes::NODES {
+        return Err(Refusal::Call(CallQuestion::Together));
     }
-    FirstNo {
-        question: last_refusal(m1, m2, space),
-        sheet: 0,
+    if space < header::rule_space(signals, nodes as u16) {
+        return Err(Refusal::Call(CallQuestion::RuleSpace));
     }
+    Ok(())
 }
 
-// Whether block c of a machine has a node of the row.
-fn block_has(rows: &[u64; sizes::BLOCK_WORDS], c: u16, x: Row) -> bool
-    requires { c < block_places }
-    ensures { result ≡ not (Passed.each members_most (λ s. not (rows_has rows.now c s && row_has x s))) }
+// The questions of a comparison, in order, for a space of so many words.
+fn check_comparison(m1: &[u16], m2: &[u16], space: usize) -> Result<(), Refusal>
+    ensures { Answered (comparison_questions m1.now m2.now space) result }
 {
-    load(rows, c as usize).meets(x)
+    header::check_machine(m1)?;
+    check_second(m2)?;
+    check_together(m1, m2, space)
 }
 
-// The number, from 1, of a block with a start node of one machine only, or 0.
-fn one_sided<'a>(
-    m1: &[u16],
-    m2: &[u16],
-    first: &'a [u64; sizes::BLOCK_WORDS],
-    second: &'a [u64; sizes::BLOCK_WORDS],
-    count: u16,
-) -> u16
-    requires { (Passed.nodes m1.now ≤ nodes_most) × (Passed.nodes m2.now ≤ nodes_most) × (count ≤ block_places) }
-    ensures { OneSided m1.now m2.now (rows_has first.now) (rows_has second.now) count result }
+// A block with a start node of one machine only.
+fn one_sided(m1: &[u16], m2: &[u16], partition: &Partition) -> Option<u16>
+    requires nodes1 { Passed.nodes m1.now ≤ nodes_most }
+    requires nodes2 { Passed.nodes m2.now ≤ nodes_most }
+    requires few { partition.now.count ≤ block_places }
+    ensures { OneSided m1.now m2.now (rows_has partition.now.first) (rows_has partition.now.second) partition.now.count result }
 {
     let starts1 = structure::start_row(m1);
     let starts2 = structure::start_row(m2);
-    let mut c: u16 = 0;
-    while c < count {
-        let has1 = block_has(first, c, starts1);
-        let has2 = block_has(second, c, starts2);
-        c += 1;
-        if has1 != has2 {
-            return c;
+    for c in 0..partition.count {
+        let block = partition.block(c);
+        let has1 = block.first.meets(starts1);
+        let has2 = block.second.meets(starts2);
+        let differ = has1 != has2;
+        if differ {
+            return Some(c);
         }
     }
-    0
-}
-
-// Copies the first n of the words into the space, from word `at` on.
-fn copy(space: &mut [u16], at: usize, words: &[u16], n: usize)
-    requires { (at + n ≤ length space.old) × (n ≤ length words.now) }
-    ensures { space.new ≡ paste space.old at words.now n }
-{
-    let mut i: usize = 0;
-    while i < n {
-        space[at + i] = words[i];
-        i += 1;
-    }
+    None
 }
 
 // The words before the lines, for a rule of n lines.
@@ -164,55 +125,47 @@ fn put_head(space: &mut [u16], n: u16)
     requires { next_head ≤ length space.old }
     ensures { space.new ≡ Comparison.rule_head n ++ drop next_head space.old }
 {
-    copy(space, 0, &NEXT, sizes::NEXT_HEAD);
+    copy(space, 0, &NEXT);
     space[header::LINES_WORD] = n;
 }
 
-// The words of n lines.
-fn put_lines(space: &mut [u16], written: &[u16; sizes::WRITTEN_SPACE], n: u16)
-    requires { (next_head + line_words * n ≤ length space.old) × (n ≤ written_most) × (length written.now ≡ written_space) }
-    ensures { space.new ≡ paste space.old next_head written.now (line_words * n) }
+// The words of the lines.
+fn put_lines(space: &mut [u16], lines: &Written)
+    requires fits { next_head + line_words * lines.now.count ≤ length space.old }
+    requires few { lines.now.count ≤ written_most }
+    ensures { space.new ≡ paste space.old next_head lines.now.words (line_words * lines.now.count) }
 {
-    copy(
-        space,
-        sizes::NEXT_HEAD,
-        written,
-        sizes::LINE_WORDS * n as usize,
-    );
+    let n = sizes::LINE_WORDS * lines.count as usize;
+    copy(space, sizes::NEXT_HEAD, &lines.words[..n]);
 }
 
-// The sheet of the lines that the last of n written lines needs.
-fn put_sheet(space: &mut [u16], written: &[u16; sizes::WRITTEN_SPACE], n: u16)
-    requires { (next_head + line_words * n ≤ length space.old) × (1 ≤ n) × (n ≤ written_most) × Listed written.now n }
-    ensures { (a : ℕ) (ls : List Entry) → Downward a ls → HoldsLines written.now ls → length ls ≡ n → (short : List Entry) × Shortened a ls short × (space.new ≡ sheet short ++ drop (length (sheet short)) space.old) }
+// The sheet of the lines that the last of the written lines needs.
+fn put_sheet(space: &mut [u16], lines: &Written)
+    requires fits { next_head + line_words * lines.now.count ≤ length space.old }
+    requires some { 1 ≤ lines.now.count }
+    requires few { lines.now.count ≤ written_most }
+    requires listed { Listed lines.now.words lines.now.count }
+    ensures { (a : ℕ) (ls : List Entry) → Downward a ls → HoldsLines lines.now.words ls → length ls ≡ lines.now.count → (short : List Entry) × Shortened a ls short × (space.new ≡ sheet short ++ drop (length (sheet short)) space.old) }
 {
-    let mut lines = [0u16; sizes::WRITTEN_SPACE];
-    let count = shorten(written, n, &mut lines);
-    put_head(space, count);
-    put_lines(space, &lines, count);
+    let mut short = Written::new();
+    shorten(lines, &mut short);
+    put_head(space, short.count);
+    put_lines(space, &short);
 }
 
 // Compares two machine sheets. Unequal, a rule that exactly one of them keeps is written at the head of the space; otherwise nothing is.
-pub fn compare(m1: &[u16], m2: &[u16], space: &mut [u16]) -> Answer
+pub fn compare(m1: &[u16], m2: &[u16], space: &mut [u16]) -> Result<Answer, Refusal>
     ensures { CompareAnswer m1.now m2.now space.old space.new result }
 {
-    let refusal = compare_refusal(m1, m2, space.len());
-    if refusal.question != 0 {
-        return Answer::Refused {
-            question: refusal.question,
-            sheet: refusal.sheet,
-        };
+    check_comparison(m1, m2, space.len())?;
+    let mut partition = refine(m1, m2);
+    match one_sided(m1, m2, &partition) {
+        None => Ok(Answer::Equal),
+        Some(c) => {
+            let line = partition.line[c as usize];
+            partition.lines.push(Line::Not(line));
+            put_sheet(space, &partition.lines);
+            Ok(Answer::Unequal)
+        }
     }
-    let p = refine(m1, m2);
-    let c = one_sided(m1, m2, &p.first, &p.second, p.count);
-    let none = c == 0;
-    if none {
-        return Answer::Equal;
-    }
-    let line = p.line[(c - 1) as usize];
-    let n = p.lines;
-    let mut words = p.words;
-    write_not(&mut words, n, line);
-    put_sheet(space, &words, n + 1);
-    Answer::Unequal
 }

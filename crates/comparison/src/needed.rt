@@ -1,277 +1,252 @@
 // Needed lines: of a list of written lines, those that the last one needs. Lines that are found to be true at the same nodes are made one.
-ghost use Rattle.std.specs.Prelude.{◌≡◌, ◌⊎◌, List, [], ◌∷◌, ℕ, ◌-◌, ◌<◌, ◌≤◌, length, get_or, set};
-ghost use Rattle.comparison.specs.inner.Sizes.{written_space, written_most, line_places};
-ghost use Rattle.comparison.specs.inner.Lines.{Entry, entry, Downward, HoldsLines, Adds};
-ghost use Rattle.comparison.specs.inner.Needed.{entry_of, renumber, marks, AllStand, Merged, Closed, Copied, Listed, Shortened};
+ghost use Rattle.std.specs.Prelude.{◌≡◌, ◌⊎◌, List, ℕ, ◌-◌, ◌≤◌, length, get_or, set, MatchOption};
+ghost use Rattle.comparison.specs.inner.Sizes.{written_most};
+ghost use Rattle.comparison.specs.inner.Lines.{Entry, entry, entry_of, Downward, HoldsLines};
+ghost use Rattle.comparison.specs.inner.Needed.{renumber, marks, AllStand, MergedIn, Closed, Copied, Listed, Shortened};
 
 use crate::sizes;
-use crate::writing::{write_next, write_not, write_or, write_signal};
-use truth::header;
+use crate::writing::{Line, Written};
 
 const PLACES: u16 = sizes::LINE_PLACES as u16;
 
-// A written line, taken apart.
+// A number for each line, 0 for none: memory is fixed, and a table of Options would take twice the space. It has a place for each line that
+// is written; what is past its end is 0.
 #[derive(Clone, Copy)]
-pub enum Line {
-    Signal(u16),
-    Not(u16),
-    Or(u16, u16),
-    Next(u16),
+pub struct Table {
+    places: [u16; sizes::LINE_PLACES],
 }
 
-// A table has a place for each line; past its end stands 0.
-fn get(table: &[u16; sizes::LINE_PLACES], i: u16) -> u16
-    requires { length table.now ≡ line_places }
-    ensures { result ≡ get_or table.now i 0 }
-{
-    if i < PLACES {
-        return table[i as usize];
+impl Table {
+    fn new() -> Table
+        ensures { (k : ℕ) → get_or result.places k 0 ≡ 0 }
+    {
+        Table {
+            places: [0; sizes::LINE_PLACES],
+        }
     }
-    0
-}
 
-fn put(table: &mut [u16; sizes::LINE_PLACES], i: u16, v: u16)
-    requires { length table.old ≡ line_places }
-    ensures { (length table.new ≡ line_places) × (table.new ≡ set table.old i v) }
-{
-    if i < PLACES {
-        table[i as usize] = v;
+    fn get(&self, i: u16) -> u16
+        ensures { result ≡ get_or self.now.places i 0 }
+    {
+        if i < PLACES {
+            return self.places[i as usize];
+        }
+        0
     }
-}
 
-// Line i of the written ones.
-fn line_at(words: &[u16; sizes::WRITTEN_SPACE], i: u16) -> Line
-    requires { (1 ≤ i) × (i ≤ written_most) }
-    ensures { (ls : List Entry) → HoldsLines words.now ls → i ≤ length ls → entry ls i ≡ entry_of result }
-{
-    let k = sizes::LINE_WORDS * (i as usize - 1);
-    let op = words[k + header::OPERATION];
-    let x = words[k + header::OPERAND];
-    let y = words[k + header::SECOND_OPERAND];
-    match op {
-        header::SIGNAL => Line::Signal(x),
-        header::NEGATION => Line::Not(x),
-        header::EITHER => Line::Or(x, y),
-        _ => Line::Next(y),
+    // The number of line i, if it has one.
+    fn find(&self, i: u16) -> Option<u16>
+        ensures { MatchOption result (get_or self.now.places i 0 ≡ 0) (λ v. (1 ≤ v) × (v ≡ get_or self.now.places i 0)) }
+    {
+        let v = self.get(i);
+        if v == 0 {
+            return None;
+        }
+        Some(v)
     }
-}
 
-fn write_line(out: &mut [u16; sizes::WRITTEN_SPACE], n: u16, line: Line)
-    requires { (n < written_most) × (length out.old ≡ written_space) }
-    ensures { Adds out.old out.new n (entry_of line ∷ []) }
-{
-    match line {
-        Line::Signal(i) => write_signal(out, n, i),
-        Line::Not(j) => write_not(out, n, j),
-        Line::Or(i, j) => write_or(out, n, i, j),
-        Line::Next(j) => write_next(out, n, j),
+    fn put(&mut self, i: u16, v: u16)
+        ensures { self.new.places ≡ set self.old.places i v }
+    {
+        if i < PLACES {
+            self.places[i as usize] = v;
+        }
+    }
+
+    // The number of line j; or i, which it has from now on.
+    fn number_or(&mut self, j: u16, i: u16) -> u16
+        ensures { ((1 ≤ result) × (result ≡ get_or self.old.places j 0) × (self.new.places ≡ self.old.places)) ⊎ ((result ≡ i) × (self.new.places ≡ set self.old.places j i)) }
+    {
+        match self.find(j) {
+            Some(before) => before,
+            None => {
+                self.put(j, i);
+                i
+            }
+        }
+    }
+
+    // The number of line j; or i, and then each of the two has the other.
+    fn opposite_or(&mut self, j: u16, i: u16) -> u16
+        ensures { ((1 ≤ result) × (result ≡ get_or self.old.places j 0) × (self.new.places ≡ self.old.places)) ⊎ ((result ≡ i) × (self.new.places ≡ set (set self.old.places j i) i j)) }
+    {
+        match self.find(j) {
+            Some(before) => before,
+            None => {
+                self.put(j, i);
+                self.put(i, j);
+                i
+            }
+        }
     }
 }
 
 // ---- lines made one
 
-// Line i is "not line j": an earlier line that is true exactly where line j is not, or line i, which is then the one for line j.
-fn opposite(other: &mut [u16; sizes::LINE_PLACES], j: u16, i: u16) -> u16
-    requires { length other.old ≡ line_places }
-    ensures { ((1 ≤ result) × (result ≡ get_or other.old j 0) × (other.new ≡ other.old)) ⊎ ((result ≡ i) × (other.new ≡ set (set other.old j i) i j)) }
-{
-    let before = get(other, j);
-    if before != 0 {
-        return before;
-    }
-    put(other, j, i);
-    put(other, i, j);
-    i
-}
-
-// Line i is "some next node has line j": an earlier line that says so, or line i, which is then the one for line j.
-fn next_line(nexts: &mut [u16; sizes::LINE_PLACES], j: u16, i: u16) -> u16
-    requires { length nexts.old ≡ line_places }
-    ensures { ((1 ≤ result) × (result ≡ get_or nexts.old j 0) × (nexts.new ≡ nexts.old)) ⊎ ((result ≡ i) × (nexts.new ≡ set nexts.old j i)) }
-{
-    let before = get(nexts, j);
-    if before != 0 {
-        return before;
-    }
-    put(nexts, j, i);
-    i
-}
-
-// Line i is "line x or line y": the other one, where one of them is true nowhere, or line i.
-fn either(other: &[u16; sizes::LINE_PLACES], top: u16, x: u16, y: u16, i: u16) -> u16
-    requires { length other.now ≡ line_places }
-    ensures { ((x ≡ get_or other.now top 0) × (result ≡ y)) ⊎ (((y ≡ get_or other.now top 0) × (result ≡ x)) ⊎ (result ≡ i)) }
-{
-    let nowhere = get(other, top);
-    if x == nowhere {
-        return y;
-    }
-    if y == nowhere {
-        return x;
-    }
-    i
-}
-
-// Line i is "line x or line y", which is true everywhere if y is true exactly where x is not.
-fn top_after(other: &[u16; sizes::LINE_PLACES], top: u16, x: u16, y: u16, i: u16) -> u16
-    requires { length other.now ≡ line_places }
-    ensures { ((get_or other.now x 0 ≡ y) × (result ≡ i)) ⊎ (result ≡ top) }
-{
-    if get(other, x) == y {
-        return i;
-    }
-    top
-}
-
-// The next line, i, is done.
-fn merge_line(
-    line: Line,
-    i: u16,
-    same: &mut [u16; sizes::LINE_PLACES],
-    other: &mut [u16; sizes::LINE_PLACES],
-    nexts: &mut [u16; sizes::LINE_PLACES],
+// Of the lines that are done, for each one: in `same` the first line found that is true where it is, in `other` one that is true exactly
+// where it is not, in `nexts` one that is true where some next node has it. Line `top` is true everywhere; it is 0 for none, which has
+// nothing in `other`, so that one read answers for both. An Option would be no plainer.
+#[derive(Clone, Copy)]
+pub struct Merging {
+    same: Table,
+    other: Table,
+    nexts: Table,
     top: u16,
-) -> u16
-    requires { (1 ≤ i) × (i ≤ written_most) × (length same.old ≡ line_places) × (length other.old ≡ line_places) × (length nexts.old ≡ line_places) }
-    ensures { (length same.new ≡ line_places) × (length other.new ≡ line_places) × (length nexts.new ≡ line_places) × ((a : ℕ) (ls : List Entry) → Downward a ls → i ≤ length ls → entry ls i ≡ entry_of line → Merged ls (i - 1) same.old other.old nexts.old top → Merged ls i same.new other.new nexts.new result) }
-{
-    match line {
-        Line::Signal(_) => {
-            put(same, i, i);
-            top
-        }
-        Line::Not(j) => {
-            let there = get(same, j);
-            let found = opposite(other, there, i);
-            put(same, i, found);
-            top
-        }
-        Line::Or(j, k) => {
-            let x = get(same, j);
-            let y = get(same, k);
-            let found = either(other, top, x, y, i);
-            put(same, i, found);
-            top_after(other, top, x, y, i)
-        }
-        Line::Next(j) => {
-            let there = get(same, j);
-            let found = next_line(nexts, there, i);
-            put(same, i, found);
-            top
-        }
-    }
 }
 
-// For each of n lines, the line that stands for it.
-fn merge(words: &[u16; sizes::WRITTEN_SPACE], n: u16, same: &mut [u16; sizes::LINE_PLACES])
-    requires { (n ≤ written_most) × (length same.old ≡ line_places) }
-    ensures { (length same.new ≡ line_places) × ((a : ℕ) (ls : List Entry) → Downward a ls → HoldsLines words.now ls → n ≤ length ls → AllStand ls n same.new) }
-{
-    let mut other = [0u16; sizes::LINE_PLACES];
-    let mut nexts = [0u16; sizes::LINE_PLACES];
-    let mut top: u16 = 0;
-    let mut i: u16 = 0;
-    while i < n {
-        i += 1;
-        top = merge_line(line_at(words, i), i, same, &mut other, &mut nexts, top);
+impl Merging {
+    // No line is done.
+    fn new() -> Merging
+        ensures { (ls : List Entry) → MergedIn ls 0 result }
+    {
+        Merging {
+            same: Table::new(),
+            other: Table::new(),
+            nexts: Table::new(),
+            top: 0,
+        }
+    }
+
+    // Line i is "line x or line y": the other one, where one of them is true nowhere, or line i.
+    fn either(&self, x: u16, y: u16, i: u16) -> u16
+        ensures { ((x ≡ get_or self.now.other.places self.now.top 0) × (result ≡ y)) ⊎ (((y ≡ get_or self.now.other.places self.now.top 0) × (result ≡ x)) ⊎ (result ≡ i)) }
+    {
+        let nowhere = self.other.get(self.top);
+        if x == nowhere {
+            return y;
+        }
+        if y == nowhere {
+            return x;
+        }
+        i
+    }
+
+    // Line i is "line x or line y", which is true everywhere if y is true exactly where x is not.
+    fn top_after(&self, x: u16, y: u16, i: u16) -> u16
+        ensures { ((get_or self.now.other.places x 0 ≡ y) × (result ≡ i)) ⊎ (result ≡ self.now.top) }
+    {
+        if self.other.get(x) == y {
+            return i;
+        }
+        self.top
+    }
+
+    // The next line, i, is done.
+    fn merge_line(&mut self, line: Line, i: u16)
+        requires low { 1 ≤ i }
+        requires high { i ≤ written_most }
+        ensures { (a : ℕ) (ls : List Entry) → Downward a ls → i ≤ length ls → entry ls i ≡ entry_of line → MergedIn ls (i - 1) self.old → MergedIn ls i self.new }
+    {
+        match line {
+            Line::Signal(_) => self.same.put(i, i),
+            Line::Not(j) => {
+                let there = self.same.get(j);
+                let found = self.other.opposite_or(there, i);
+                self.same.put(i, found);
+            }
+            Line::Or(j, k) => {
+                let x = self.same.get(j);
+                let y = self.same.get(k);
+                let found = self.either(x, y, i);
+                self.same.put(i, found);
+                self.top = self.top_after(x, y, i);
+            }
+            Line::Next(j) => {
+                let there = self.same.get(j);
+                let found = self.nexts.number_or(there, i);
+                self.same.put(i, found);
+            }
+        }
+    }
+
+    // For each of the lines, the line that stands for it.
+    fn merge(&mut self, lines: &Written)
+        requires few { lines.now.count ≤ written_most }
+        requires none { (ls : List Entry) → MergedIn ls 0 self.old }
+        ensures { (a : ℕ) (ls : List Entry) → Downward a ls → HoldsLines lines.now.words ls → lines.now.count ≤ length ls → AllStand ls lines.now.count self.new.same.places }
+    {
+        for i in 1..=lines.count {
+            self.merge_line(lines.line(i), i);
+        }
     }
 }
 
 // ---- needed lines
 
 // The lines that a needed line refers to are needed.
-fn mark_line(line: Line, same: &[u16; sizes::LINE_PLACES], needed: &mut [u16; sizes::LINE_PLACES])
-    requires { (length same.now ≡ line_places) × (length needed.old ≡ line_places) }
-    ensures { needed.new ≡ marks (λ j. get_or same.now j 0) (entry_of line) needed.old }
+fn mark_line(line: Line, same: &Table, needed: &mut Table)
+    ensures { needed.new.places ≡ marks (λ j. get_or same.now.places j 0) (entry_of line) needed.old.places }
 {
     match line {
         Line::Signal(_) => {}
-        Line::Not(j) => put(needed, get(same, j), 1),
+        Line::Not(j) => needed.put(same.get(j), 1),
         Line::Or(i, j) => {
-            put(needed, get(same, i), 1);
-            put(needed, get(same, j), 1);
+            needed.put(same.get(i), 1);
+            needed.put(same.get(j), 1);
         }
-        Line::Next(j) => put(needed, get(same, j), 1),
+        Line::Next(j) => needed.put(same.get(j), 1),
     }
 }
 
 // The lines that line j needs, from line j up.
-fn mark(
-    words: &[u16; sizes::WRITTEN_SPACE],
-    j: u16,
-    same: &[u16; sizes::LINE_PLACES],
-    needed: &mut [u16; sizes::LINE_PLACES],
-)
-    requires { (1 ≤ j) × (j ≤ written_most) × (length same.now ≡ line_places) × (length needed.old ≡ line_places) × ((k : ℕ) → get_or needed.old k 0 ≡ 0) }
-    ensures { (length needed.new ≡ line_places) × ((a : ℕ) (ls : List Entry) → Downward a ls → HoldsLines words.now ls → j ≤ length ls → AllStand ls (length ls) same.now → Closed ls same.now 0 j needed.new) }
+fn mark(lines: &Written, j: u16, same: &Table, needed: &mut Table)
+    requires low { 1 ≤ j }
+    requires high { j ≤ written_most }
+    requires none { (k : ℕ) → get_or needed.old.places k 0 ≡ 0 }
+    ensures { (a : ℕ) (ls : List Entry) → Downward a ls → HoldsLines lines.now.words ls → j ≤ length ls → AllStand ls (length ls) same.now.places
+        → Closed ls same.now.places 0 j needed.new.places }
 {
-    put(needed, j, 1);
-    let mut i = j;
-    while i > 0 {
-        let k = i;
-        i -= 1;
-        if get(needed, k) != 0 {
-            mark_line(line_at(words, k), same, needed);
+    needed.put(j, 1);
+    for i in (0..j).rev() {
+        if needed.get(i + 1) != 0 {
+            mark_line(lines.line(i + 1), same, needed);
         }
     }
 }
 
 // The line with its references renumbered.
-fn renumbered(
-    line: Line,
-    same: &[u16; sizes::LINE_PLACES],
-    number: &[u16; sizes::LINE_PLACES],
-) -> Line
-    requires { (length same.now ≡ line_places) × (length number.now ≡ line_places) }
-    ensures { entry_of result ≡ renumber (λ j. get_or number.now (get_or same.now j 0) 0) (entry_of line) }
+fn renumbered(line: Line, same: &Table, number: &Table) -> Line
+    ensures { entry_of result ≡ renumber (λ j. get_or number.now.places (get_or same.now.places j 0) 0) (entry_of line) }
 {
     match line {
         Line::Signal(i) => Line::Signal(i),
-        Line::Not(j) => Line::Not(get(number, get(same, j))),
-        Line::Or(i, j) => Line::Or(get(number, get(same, i)), get(number, get(same, j))),
-        Line::Next(j) => Line::Next(get(number, get(same, j))),
+        Line::Not(j) => Line::Not(number.get(same.get(j))),
+        Line::Or(i, j) => Line::Or(number.get(same.get(i)), number.get(same.get(j))),
+        Line::Next(j) => Line::Next(number.get(same.get(j))),
     }
 }
 
-// The needed lines of lines 1 to j, one below the other, and how many they are.
-fn copy_needed<'a>(
-    words: &[u16; sizes::WRITTEN_SPACE],
-    j: u16,
-    same: &'a [u16; sizes::LINE_PLACES],
-    needed: &'a [u16; sizes::LINE_PLACES],
-    out: &mut [u16; sizes::WRITTEN_SPACE],
-) -> u16
-    requires { (j ≤ written_most) × (length same.now ≡ line_places) × (length needed.now ≡ line_places) × (length out.old ≡ written_space) }
-    ensures { (result ≤ j) × (length out.new ≡ written_space) × ((a : ℕ) (ls : List Entry) → Downward a ls → HoldsLines words.now ls → j ≤ length ls → AllStand ls (length ls) same.now → Closed ls same.now 0 j needed.now → (number : List ℕ) × Copied a ls same.now needed.now j number out.new result) }
+// The needed lines of lines 1 to j are written one below the other.
+fn copy_needed(lines: &Written, j: u16, same: &Table, needed: &Table, out: &mut Written)
+    requires few { j ≤ written_most }
+    ensures few { out.new.count ≤ j }
+    ensures copied { (a : ℕ) (ls : List Entry) → Downward a ls → HoldsLines lines.now.words ls → j ≤ length ls → AllStand ls (length ls) same.now.places
+        → Closed ls same.now.places 0 j needed.now.places
+        → (number : List ℕ) × Copied a ls same.now.places needed.now.places j number out.new.words out.new.count }
 {
-    let mut number = [0u16; sizes::LINE_PLACES];
-    let mut count: u16 = 0;
-    let mut i: u16 = 0;
-    while i < j {
-        i += 1;
-        if get(needed, i) != 0 {
-            let line = renumbered(line_at(words, i), same, &number);
-            write_line(out, count, line);
-            count += 1;
-            put(&mut number, i, count);
+    let mut number = Table::new();
+    out.count = 0;
+    for i in 1..=j {
+        if needed.get(i) != 0 {
+            let line = renumbered(lines.line(i), same, &number);
+            number.put(i, out.push(line));
         }
     }
-    count
 }
 
-// Of n written lines, those that the last one needs, one below the other, and how many they are.
-pub fn shorten(
-    words: &[u16; sizes::WRITTEN_SPACE],
-    n: u16,
-    out: &mut [u16; sizes::WRITTEN_SPACE],
-) -> u16
-    requires { (1 ≤ n) × (n ≤ written_most) × Listed words.now n × (length out.old ≡ written_space) }
-    ensures { (result ≤ n) × (length out.new ≡ written_space) × ((a : ℕ) (ls : List Entry) → Downward a ls → HoldsLines words.now ls → length ls ≡ n → (short : List Entry) × Shortened a ls short × HoldsLines out.new short × (length short ≡ result)) }
+// Of the written lines, those that the last one needs are written one below the other.
+pub fn shorten(lines: &Written, out: &mut Written)
+    requires low { 1 ≤ lines.now.count }
+    requires high { lines.now.count ≤ written_most }
+    requires listed { Listed lines.now.words lines.now.count }
+    ensures few { out.new.count ≤ lines.now.count }
+    ensures shortened { (a : ℕ) (ls : List Entry) → Downward a ls → HoldsLines lines.now.words ls → length ls ≡ lines.now.count
+        → (short : List Entry) × Shortened a ls short × HoldsLines out.new.words short × (length short ≡ out.new.count) }
 {
-    let mut same = [0u16; sizes::LINE_PLACES];
-    let mut needed = [0u16; sizes::LINE_PLACES];
-    merge(words, n, &mut same);
-    let last = get(&same, n);
-    mark(words, last, &same, &mut needed);
-    copy_needed(words, last, &same, &needed, out)
+    let mut merging = Merging::new();
+    merging.merge(lines);
+    let last = merging.same.get(lines.count);
+    let mut needed = Table::new();
+    mark(lines, last, &merging.same, &mut needed);
+    copy_needed(lines, last, &merging.same, &needed, out);
 }

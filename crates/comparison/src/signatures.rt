@@ -1,192 +1,216 @@
 // Signatures: marks of the blocks on the nodes, the marks that a node's edges lead to, and a mark in which two nodes of a block differ.
-ghost use Rattle.std.specs.Prelude.{◌≡◌, true, ◌&&◌, ℕ, ◌≤◌, length};
+ghost use Rattle.std.specs.Prelude.{◌≡◌, true, ◌&&◌, ◌||◌, ℕ, ◌-◌, ◌≤◌, leb, eqb};
+ghost use Rattle.truth.specs.Sizes.{members_most};
+ghost use Rattle.truth.specs.Passed.{within};
 ghost use Rattle.truth.specs.inner.Rows.{row_has, rows_has, leads_into};
 ghost use Rattle.truth.specs.inner.Targets.{TailOf};
-ghost use Rattle.comparison.specs.inner.Sizes.{block_places, node_places};
+ghost use Rattle.comparison.specs.inner.Sizes.{block_places};
+ghost use Rattle.comparison.specs.inner.Machines.{Tailed};
 ghost use Rattle.comparison.specs.inner.Signatures.{MarkedRow, BlockMarks, MarksIn, TellsApart, TellsUnlike, TellsOne, Alone, Led, TellsMark};
 ghost use Rattle.comparison.specs.inner.Blocks.{Members};
 
+use crate::blocks::Partition;
+use crate::machines::{Both, Machine, Machines, Sets};
 use crate::sizes;
 use truth::rows::Row;
 use truth::structure;
-use truth::structure::Tail;
 use truth::tables::load;
 
-// The signature of one node, and the other nodes of each machine.
+// The mark of each node of the two machines, and the marks that there are: a node of block c has the mark c + 1.
+#[derive(Clone, Copy)]
+pub struct Marks {
+    pub first: [u16; sizes::NODE_PLACES],
+    pub second: [u16; sizes::NODE_PLACES],
+    pub all: Row,
+}
+
+// The signature of one node, and the other nodes.
 #[derive(Clone, Copy)]
 pub struct Lead {
     pub marks: Row,
-    pub rest1: Row,
-    pub rest2: Row,
+    pub rest: Sets,
 }
 
 // Each node of the row gets the mark e.
-pub fn mark_row(mark: &mut [u16; sizes::NODE_PLACES], row: Row, e: u16)
-    requires { length mark.old ≡ node_places }
+fn mark_row(mark: &mut [u16; sizes::NODE_PLACES], row: Row, e: u16)
     ensures { MarkedRow (row_has row) e mark.old mark.new }
 {
-    let mut left = row;
-    loop {
-        let s = left.first();
-        if s == 0 {
-            return;
-        }
+    for s in row.members() {
         mark[s as usize] = e;
-        left = left.without(s);
     }
 }
 
 // The marks of the nodes of rows 0 to n - 1, where the mark of row c is c + 1.
-pub fn marks(rows: &[u64; sizes::BLOCK_WORDS], n: u16) -> [u16; sizes::NODE_PLACES]
+fn row_marks(rows: &[u64; sizes::BLOCK_WORDS], n: u16) -> [u16; sizes::NODE_PLACES]
     requires { n ≤ block_places }
     ensures { BlockMarks (rows_has rows.now) n result }
 {
     let mut mark = [0u16; sizes::NODE_PLACES];
-    let mut c: u16 = 0;
-    while c < n {
-        let row = load(rows, c as usize);
-        c += 1;
-        mark_row(&mut mark, row, c);
+    for c in 0..n {
+        mark_row(&mut mark, load(rows, c as usize), c + 1);
     }
     mark
 }
 
-// The nodes of the row with an edge into the other.
-pub fn leading(m: &[u16], row: Row, into: Row, tail: Tail) -> Row
-    requires { TailOf m.now tail }
-    ensures { (s : ℕ) → row_has result s ≡ (row_has row s && leads_into m.now (row_has into) s) }
-{
-    let mut out = Row::empty();
-    let mut left = row;
-    loop {
-        let s = left.first();
-        if s == 0 {
-            return out;
+impl Marks {
+    // The marks of the blocks.
+    pub fn of(partition: &Partition) -> Marks
+        requires { partition.now.count ≤ block_places }
+        ensures first { BlockMarks (rows_has partition.now.first) partition.now.count result.first }
+        ensures second { BlockMarks (rows_has partition.now.second) partition.now.count result.second }
+        ensures all { (e : ℕ) → row_has result.all e ≡ (leb e partition.now.count && within 1 members_most e) }
+    {
+        Marks {
+            first: row_marks(&partition.first, partition.count),
+            second: row_marks(&partition.second, partition.count),
+            all: structure::node_row(partition.count),
         }
-        left = left.without(s);
-        if structure::leads_into(m, s, into, tail) {
-            out = out.with(s);
-        }
+    }
+
+    // The mark of the last block, which is new.
+    pub fn add_last(&mut self, partition: &Partition)
+        requires some { 1 ≤ partition.now.count }
+        requires few { partition.now.count ≤ block_places }
+        ensures first { MarkedRow (rows_has partition.now.first (partition.now.count - 1)) partition.now.count self.old.first self.new.first }
+        ensures second { MarkedRow (rows_has partition.now.second (partition.now.count - 1)) partition.now.count self.old.second self.new.second }
+        ensures all { (e : ℕ) → row_has self.new.all e ≡ (row_has self.old.all e || (within 1 members_most partition.now.count && eqb e partition.now.count)) }
+    {
+        let mark = partition.count;
+        let block = partition.block(mark - 1);
+        mark_row(&mut self.first, block.first, mark);
+        mark_row(&mut self.second, block.second, mark);
+        self.all = self.all.with(mark);
     }
 }
 
-// A mark that one of the rows has and the other has not, or 0.
-fn apart(a: Row, b: Row) -> u16
-    ensures { TellsApart (row_has a) (row_has b) result }
+// The nodes of the row with an edge into the other.
+pub fn leading(m: &Machine<'_>, row: Row, into: Row) -> Row
+    requires { TailOf m.now.words.now m.now.tail }
+    ensures { (s : ℕ) → row_has result s ≡ (row_has row s && leads_into m.now.words.now (row_has into) s) }
 {
-    a.difference(b).union(b.difference(a)).first()
+    let mut out = Row::empty();
+    for s in row.members() {
+        if structure::leads_into(m.words, s, into, m.tail) {
+            out = out.with(s);
+        }
+    }
+    out
 }
 
-// A mark in which the signature of a node of the row differs from l, or 0.
+// A mark that one of the rows has and the other has not.
+fn apart(a: Row, b: Row) -> Option<u16>
+    ensures { TellsApart (row_has a) (row_has b) result }
+{
+    a.difference(b).union(b.difference(a)).lowest()
+}
+
+// A mark in which the signature of a node of the row differs from l.
 fn unlike(
-    m: &[u16],
+    m: &Machine<'_>,
     mark: &[u16; sizes::NODE_PLACES],
     all: Row,
     row: Row,
     l: Row,
-    tail: Tail,
-) -> u16
-    requires { MarksIn m.now mark.now (row_has row) (row_has all) × TailOf m.now tail }
-    ensures { TellsUnlike m.now mark.now (row_has row) (row_has l) result }
+) -> Option<u16>
+    requires marks { MarksIn m.now.words.now mark.now (row_has row) (row_has all) }
+    requires tailed { TailOf m.now.words.now m.now.tail }
+    ensures { TellsUnlike m.now.words.now mark.now (row_has row) (row_has l) result }
 {
-    let mut left = row;
-    loop {
-        let s = left.last();
-        if s == 0 {
-            return 0;
+    for s in row.members().rev() {
+        match apart(structure::marks_into(m.words, mark, all, s, m.tail), l) {
+            Some(e) => return Some(e),
+            None => {}
         }
-        let e = apart(structure::marks_into(m, mark, all, s, tail), l);
-        if e != 0 {
-            return e;
-        }
-        left = left.without(s);
     }
+    None
 }
 
 // Whether the row has at most one node.
 fn at_most_one(row: Row) -> bool
     ensures { TellsOne (row_has row) result }
 {
-    row.without(row.first()).is_empty()
+    match row.lowest() {
+        None => true,
+        Some(s) => row.without(s).is_empty(),
+    }
 }
 
 // Whether the rows together have at most one node.
-fn alone(row1: Row, row2: Row) -> bool
-    ensures { result ≡ true → Alone (row_has row1) (row_has row2) }
+fn alone(rows: Sets) -> bool
+    ensures { result ≡ true → Alone (row_has rows.first) (row_has rows.second) }
 {
-    if !at_most_one(row1) {
-        return false;
+    if rows.first.is_empty() {
+        return at_most_one(rows.second);
     }
-    if !at_most_one(row2) {
-        return false;
+    if rows.second.is_empty() {
+        return at_most_one(rows.first);
     }
-    if row1.is_empty() {
-        return true;
-    }
-    row2.is_empty()
+    false
 }
 
 // The signature of a node of the rows, if they have one, and the nodes that are left.
-fn led_by(
-    m1: &[u16],
-    m2: &[u16],
-    mark1: &[u16; sizes::NODE_PLACES],
-    mark2: &[u16; sizes::NODE_PLACES],
-    all: Row,
-    row1: Row,
-    row2: Row,
-    tail1: Tail,
-    tail2: Tail,
-) -> Lead
-    requires { MarksIn m1.now mark1.now (row_has row1) (row_has all) × MarksIn m2.now mark2.now (row_has row2) (row_has all) × TailOf m1.now tail1 × TailOf m2.now tail2 }
-    ensures { Led m1.now m2.now mark1.now mark2.now (row_has row1) (row_has row2) result }
+fn led_by(ms: &Machines<'_>, marks: &Marks, rows: Sets) -> Lead
+    requires first { MarksIn ms.now.first.words.now marks.now.first (row_has rows.first) (row_has marks.now.all) }
+    requires second { MarksIn ms.now.second.words.now marks.now.second (row_has rows.second) (row_has marks.now.all) }
+    requires tailed { Tailed ms.now }
+    ensures { Led ms.now.first.words.now ms.now.second.words.now marks.now.first marks.now.second (row_has rows.first) (row_has rows.second) result }
 {
-    let s = row1.last();
-    if s != 0 {
-        return Lead {
-            marks: structure::marks_into(m1, mark1, all, s, tail1),
-            rest1: row1.without(s),
-            rest2: row2,
-        };
-    }
-    let t = row2.last();
-    if t != 0 {
-        return Lead {
-            marks: structure::marks_into(m2, mark2, all, t, tail2),
-            rest1: row1,
-            rest2: row2.without(t),
-        };
-    }
-    Lead {
-        marks: Row::EMPTY,
-        rest1: row1,
-        rest2: row2,
+    match rows.first.highest() {
+        Some(s) => Lead {
+            marks: structure::marks_into(ms.first.words, &marks.first, marks.all, s, ms.first.tail),
+            rest: Both {
+                first: rows.first.without(s),
+                second: rows.second,
+            },
+        },
+        None => match rows.second.highest() {
+            Some(t) => Lead {
+                marks: structure::marks_into(
+                    ms.second.words,
+                    &marks.second,
+                    marks.all,
+                    t,
+                    ms.second.tail,
+                ),
+                rest: Both {
+                    first: rows.first,
+                    second: rows.second.without(t),
+                },
+            },
+            None => Lead {
+                marks: Row::empty(),
+                rest: rows,
+            },
+        },
     }
 }
 
-// A mark that the edges of one node of block c lead to and those of another do not, or 0. A block of one node is not looked at.
-pub fn splitter(
-    m1: &[u16],
-    m2: &[u16],
-    mark1: &[u16; sizes::NODE_PLACES],
-    mark2: &[u16; sizes::NODE_PLACES],
-    all: Row,
-    row1: Row,
-    row2: Row,
-    tail1: Tail,
-    tail2: Tail,
-) -> u16
-    requires { MarksIn m1.now mark1.now (row_has row1) (row_has all) × MarksIn m2.now mark2.now (row_has row2) (row_has all) × TailOf m1.now tail1 × TailOf m2.now tail2 }
-    ensures { (m₁ m₂ : Members) (c : ℕ) → ((s : ℕ) → row_has row1 s ≡ m₁ c s) → ((t : ℕ) → row_has row2 t ≡ m₂ c t)
-        → TellsMark m1.now m2.now m₁ m₂ mark1.now mark2.now c result }
+// A mark that the edges of one node of a block lead to and those of another do not. A block of one node is not looked at.
+pub fn splitter(ms: &Machines<'_>, marks: &Marks, rows: Sets) -> Option<u16>
+    requires first { MarksIn ms.now.first.words.now marks.now.first (row_has rows.first) (row_has marks.now.all) }
+    requires second { MarksIn ms.now.second.words.now marks.now.second (row_has rows.second) (row_has marks.now.all) }
+    requires tailed { Tailed ms.now }
+    ensures { (m₁ m₂ : Members) (c : ℕ) → ((s : ℕ) → row_has rows.first s ≡ m₁ c s) → ((t : ℕ) → row_has rows.second t ≡ m₂ c t)
+        → TellsMark ms.now.first.words.now ms.now.second.words.now m₁ m₂ marks.now.first marks.now.second c result }
 {
-    if alone(row1, row2) {
-        return 0;
+    if alone(rows) {
+        return None;
     }
-    let found = led_by(m1, m2, mark1, mark2, all, row1, row2, tail1, tail2);
-    let e = unlike(m1, mark1, all, found.rest1, found.marks, tail1);
-    if e != 0 {
-        return e;
+    let lead = led_by(ms, marks, rows);
+    match unlike(
+        &ms.first,
+        &marks.first,
+        marks.all,
+        lead.rest.first,
+        lead.marks,
+    ) {
+        Some(e) => Some(e),
+        None => unlike(
+            &ms.second,
+            &marks.second,
+            marks.all,
+            lead.rest.second,
+            lead.marks,
+        ),
     }
-    unlike(m2, mark2, all, found.rest2, found.marks, tail2)
 }

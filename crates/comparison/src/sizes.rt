@@ -1,4 +1,5 @@
-// The sizes of comparison's tables, beside what it takes of the format and of truth's tables. The definitions have them in specs/Sizes.
+// The sizes of comparison's tables, beside what it takes of the format and of truth's tables. The definitions have them in
+// specs/inner/Sizes.
 use truth::{header, sizes};
 
 // Of the format: the most nodes, the words of a line record, and the words of a written rule before its lines.

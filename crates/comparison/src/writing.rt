@@ -1,97 +1,145 @@
-// Writing lines: the words of each line, one record after another, into the space for them.
-ghost use Rattle.std.specs.Prelude.{◌≡◌, [], ◌∷◌, ◌++◌, ◌+◌, ◌*◌, ◌<◌, ◌≤◌, length, take, set};
-ghost use Rattle.truth.specs.Passed.{line_words, operation_place, operand_place, line_record};
+// Writing lines: the words of each line, one record after another, in the space for them.
+ghost use Rattle.std.specs.Prelude.{◌≡◌, List, [], ◌∷◌, ◌++◌, ◌+◌, ◌*◌, ◌<◌, ◌≤◌, length, take};
+ghost use Rattle.std.proofs.Math.Seq.{paste};
+ghost use Rattle.truth.specs.Passed.{operation_number};
+ghost use Rattle.truth.specs.Passed.{line_words, line_record};
 ghost use Rattle.comparison.specs.inner.Sizes.{written_space, written_most};
-ghost use Rattle.comparison.specs.inner.Lines.{sig, neg, alt, next, signal_lines, first_lines, split, HoldsLines, Adds};
+ghost use Rattle.comparison.specs.inner.Lines.{Entry, entry, entry_of, signal_lines, first_lines, split, HoldsLines, Pushed};
 
 use crate::sizes;
 use truth::header;
+use truth::header::Operation;
 
-// A line record from a place on: its operation, two operands, and zeros for what is unused.
-fn put_words(out: &mut [u16; sizes::WRITTEN_SPACE], k: usize, op: u16, x: u16, y: u16)
-    requires { k + line_words ≤ written_space }
-    ensures { out.new ≡ set (set (set (set (set (set out.old (k + operation_place) op) (k + operand_place) x) (k + (operand_place + 1)) y) (k + (operand_place + 2)) 0) (k + (operand_place + 3)) 0) (k + (operand_place + 4)) 0 }
-{
-    out[k + header::OPERATION] = op;
-    out[k + header::OPERAND] = x;
-    out[k + header::SECOND_OPERAND] = y;
-    out[k + header::THIRD_OPERAND] = 0;
-    out[k + header::FOURTH_OPERAND] = 0;
-    out[k + header::FIFTH_OPERAND] = 0;
+// A line: signal i; not line j; line i or line j; some next node has line j. It is not sheets' Line, which has an automaton and the lines
+// of four variables with a path: comparison writes one automaton, and would have to answer for all the others.
+#[derive(Clone, Copy, Debug, PartialEq, Eq)]
+pub enum Line {
+    Signal(u16),
+    Not(u16),
+    Or(u16, u16),
+    Next(u16),
 }
 
-// The words of line n + 1, of which the last three are always 0.
-fn write_words(out: &mut [u16; sizes::WRITTEN_SPACE], n: u16, op: u16, x: u16, y: u16)
-    requires { (n < written_most) × (length out.old ≡ written_space) }
-    ensures { (length out.new ≡ written_space) × (take (line_words * n + line_words) out.new ≡ take (line_words * n) out.old ++ line_record op x y) }
-{
-    let k = sizes::LINE_WORDS * (n as usize);
-    put_words(out, k, op, x, y)
+// Written lines: their words, and how many they are, in the room for the most that there may be, since nothing is kept on the heap. Lines
+// count from 1. That there is room is part of what each stage of refinement keeps (`Room`), and is not said a second time by a ghost field.
+#[derive(Clone, Copy)]
+pub struct Written {
+    pub words: [u16; sizes::WRITTEN_SPACE],
+    pub count: u16,
 }
 
-// Signal i.
-pub fn write_signal(out: &mut [u16; sizes::WRITTEN_SPACE], n: u16, i: u16)
-    requires { (n < written_most) × (length out.old ≡ written_space) }
-    ensures { Adds out.old out.new n (sig i ∷ []) }
-{
-    write_words(out, n, header::SIGNAL, i, 0)
+// The two lines that a split writes for the parts of a block: where line p is true, and where it is not.
+#[derive(Clone, Copy, Debug, PartialEq, Eq)]
+pub struct PartLines {
+    pub inside: u16,
+    pub outside: u16,
 }
 
-// Not line j.
-pub fn write_not(out: &mut [u16; sizes::WRITTEN_SPACE], n: u16, j: u16)
-    requires { (n < written_most) × (length out.old ≡ written_space) }
-    ensures { Adds out.old out.new n (neg j ∷ []) }
+// Copies the words into the space, from word `at` on.
+pub fn copy(space: &mut [u16], at: usize, words: &[u16])
+    requires { at + length words.now ≤ length space.old }
+    ensures { space.new ≡ paste space.old at words.now (length words.now) }
 {
-    write_words(out, n, header::NEGATION, j, 0)
+    space[at..at + words.len()].copy_from_slice(words);
 }
 
-// Line i or line j.
-pub fn write_or(out: &mut [u16; sizes::WRITTEN_SPACE], n: u16, i: u16, j: u16)
-    requires { (n < written_most) × (length out.old ≡ written_space) }
-    ensures { Adds out.old out.new n (alt i j ∷ []) }
-{
-    write_words(out, n, header::EITHER, i, j)
-}
-
-// Some next node has line j.
-pub fn write_next(out: &mut [u16; sizes::WRITTEN_SPACE], n: u16, j: u16)
-    requires { (n < written_most) × (length out.old ≡ written_space) }
-    ensures { Adds out.old out.new n (next j ∷ []) }
-{
-    write_words(out, n, header::SOME_PATH, 1, j)
-}
-
-// Lines 1 to a: the signals.
-fn write_signals(out: &mut [u16; sizes::WRITTEN_SPACE], a: u16)
-    requires { (a < written_most) × (length out.old ≡ written_space) }
-    ensures { HoldsLines out.new (signal_lines a) }
-{
-    let mut i: u16 = 0;
-    while i < a {
-        write_signal(out, i, i + 1);
-        i += 1;
+impl Written {
+    // No line.
+    pub fn new() -> Written
+        ensures { result.count ≡ 0 }
+    {
+        Written {
+            words: [0; sizes::WRITTEN_SPACE],
+            count: 0,
+        }
     }
-}
 
-// The signals, and then signal 1 or not signal 1.
-pub fn write_first_lines(out: &mut [u16; sizes::WRITTEN_SPACE], a: u16)
-    requires { (a + 2 ≤ written_most) × (length out.old ≡ written_space) }
-    ensures { HoldsLines out.new (first_lines a) }
-{
-    write_signals(out, a);
-    write_not(out, a, 1);
-    write_or(out, a + 1, 1, a + 1);
-}
+    // One line record more, of which the last three words are always 0; the number of the line.
+    fn push_words(&mut self, operation: Operation, x: u16, y: u16) -> u16
+        requires { self.old.count < written_most }
+        ensures number { result ≡ self.old.count + 1 }
+        ensures count { self.new.count ≡ self.old.count + 1 }
+        ensures size { length self.new.words ≡ written_space }
+        ensures words { take (line_words * self.old.count + line_words) self.new.words ≡ take (line_words * self.old.count) self.old.words ++ line_record (operation_number operation) x y }
+    {
+        let at = sizes::LINE_WORDS * (self.count as usize);
+        copy(&mut self.words, at, &[operation.number(), x, y, 0, 0, 0]);
+        self.count += 1;
+        self.count
+    }
 
-// The lines of a split of line b by line p.
-pub fn write_split(out: &mut [u16; sizes::WRITTEN_SPACE], n: u16, b: u16, p: u16)
-    requires { (n + 6 ≤ written_most) × (length out.old ≡ written_space) }
-    ensures { Adds out.old out.new n (split n b p) }
-{
-    write_not(out, n, b);
-    write_not(out, n + 1, p);
-    write_or(out, n + 2, n + 1, n + 2);
-    write_not(out, n + 3, n + 3);
-    write_or(out, n + 4, n + 1, p);
-    write_not(out, n + 5, n + 5);
+    // One line more; its number.
+    pub fn push(&mut self, line: Line) -> u16
+        requires { self.old.count < written_most }
+        ensures number { result ≡ self.old.count + 1 }
+        ensures pushed { Pushed self.old self.new (entry_of line ∷ []) }
+    {
+        match line {
+            Line::Signal(i) => self.push_words(Operation::Signal, i, 0),
+            Line::Not(j) => self.push_words(Operation::Negation, j, 0),
+            Line::Or(i, j) => self.push_words(Operation::Either, i, j),
+            Line::Next(j) => self.push_words(Operation::SomePath, 1, j),
+        }
+    }
+
+    // Line i, taken apart.
+    pub fn line(&self, i: u16) -> Line
+        requires low { 1 ≤ i }
+        requires high { i ≤ written_most }
+        ensures { (ls : List Entry) → HoldsLines self.now.words ls → i ≤ length ls → entry ls i ≡ entry_of result }
+    {
+        let k = sizes::LINE_WORDS * (i as usize - 1);
+        let x = self.words[k + header::OPERAND];
+        let y = self.words[k + header::SECOND_OPERAND];
+        let Ok(operation) = Operation::try_from(self.words[k + header::OPERATION]) else {
+            return Line::Next(y);
+        };
+        match operation {
+            Operation::Signal => Line::Signal(x),
+            Operation::Negation => Line::Not(x),
+            Operation::Either => Line::Or(x, y),
+            Operation::SomePath | Operation::SomePathNot => Line::Next(y),
+        }
+    }
+
+    // Lines 1 to a: the signals.
+    fn push_signals(&mut self, a: u16)
+        requires empty { self.old.count ≡ 0 }
+        requires few { a < written_most }
+        ensures count { self.new.count ≡ a }
+        ensures holds { HoldsLines self.new.words (signal_lines a) }
+    {
+        for i in 1..=a {
+            self.push(Line::Signal(i));
+        }
+    }
+
+    // The signals, and then signal 1 or not signal 1, which is true everywhere; the number of that line.
+    pub fn push_first(&mut self, a: u16) -> u16
+        requires empty { self.old.count ≡ 0 }
+        requires few { a + 2 ≤ written_most }
+        ensures number { result ≡ a + 2 }
+        ensures count { self.new.count ≡ a + 2 }
+        ensures holds { HoldsLines self.new.words (first_lines a) }
+    {
+        self.push_signals(a);
+        let not_first = self.push(Line::Not(1));
+        self.push(Line::Or(1, not_first))
+    }
+
+    // The lines of a split of line b by line p.
+    pub fn push_split(&mut self, b: u16, p: u16) -> PartLines
+        requires { self.old.count + 6 ≤ written_most }
+        ensures inside { result.inside ≡ self.old.count + 4 }
+        ensures outside { result.outside ≡ self.old.count + 6 }
+        ensures pushed { Pushed self.old self.new (split self.old.count b p) }
+    {
+        let not_b = self.push(Line::Not(b));
+        let not_p = self.push(Line::Not(p));
+        let outside_or_not_b = self.push(Line::Or(not_b, not_p));
+        let inside = self.push(Line::Not(outside_or_not_b));
+        let inside_or_not_b = self.push(Line::Or(not_b, p));
+        let outside = self.push(Line::Not(inside_or_not_b));
+        PartLines { inside, outside }
+    }
 }

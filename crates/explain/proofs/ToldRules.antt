@@ -1,26 +1,37 @@
 -- A rule that exactly one of two machines keeps: the verdict by the start node where each breaks it.
-use mathlib.Core.Path.{◌≡◌, sym}
-use mathlib.Core.Logic.{⊎_elim, ◌≢◌}
+use Rattle.std.specs.Prelude.{Option, Some, None, IsSome}
+use mathlib.Core.Path.{◌≡◌, refl}
+use mathlib.Core.Logic.{⊎_elim}
 use Prim.Native.Nat.{ℕ}
 use mathlib.Core.List.{List}
-use mathlib.Core.Bool.{true, false, true≢false}
-use Rattle.truth.specs.Breaks.{FirstBreak}
+use native.Mathlib.Omega.{arith}
+use Rattle.sheets.specs.Rules.{lent}
+use Rattle.sheets.specs.declared.refusal.Side.TheVariants.{First, Second}
+use Rattle.truth.specs.Truth.{Keeps}
+use Rattle.truth.specs.Breaks.{BreaksAt, FirstBreak}
 use Rattle.comparison.specs.Comparison.{ToldApart}
 use Rattle.explain.specs.Verdicts.{Judged}
 
-module _ (M₁ M₂ R : List ℕ) (apart : ToldApart M₁ M₂ R) (s : ℕ) (second : FirstBreak M₂ R s) where
-  pub judged-first : s ≢ 0 → Judged M₁ M₂ R (record { first = true; node = s })
-  unfolding ToldApart
-  judged-first n = record {
-    first = λ e. (⊎_elim (λ h. h.0) (λ h. absurd (n (second.kept.1 h.1))) apart, second.broken n);
-    second = λ e. absurd (true≢false e);
+module _ (M₁ M₂ R : List ℕ) (apart : ToldApart M₁ M₂ R) where
+  pub judged-first : (s : ℕ) → BreaksAt M₂ R s → Judged M₁ M₂ R (record { keeper = First; node = s })
+  unfolding ToldApart Keeps
+  judged-first s broken = record {
+    first = λ e. (⊎_elim (λ h. h.0) (λ h. absurd (broken.untrue (h.1 s broken.start))) apart, broken);
+    second = λ e. absurd (let z : ◌≡◌ {A = ℕ} 0 1 = cc in omega arith);
   }
 
-  pub judged-second : s ≡ 0 → (t : ℕ) → FirstBreak M₁ R t → Judged M₁ M₂ R (record { first = false; node = t })
+  -- where the second keeps the rule, the first breaks it
+  pub not-both : Keeps lent M₂ R → Keeps lent M₁ R → ⊥
   unfolding ToldApart
-  judged-second z t first =
-      let kept = second.kept.0 z in
-      record {
-        first = λ e. absurd (true≢false (sym e));
-        second = λ e. (kept, first.broken (λ y. ⊎_elim (λ h. h.1 kept) (λ h. h.0 (first.kept.0 y)) apart));
-      }
+  not-both second first = ⊎_elim (λ h. h.1 second) (λ h. h.0 first) apart
+
+  pub judged-second : (t : ℕ) → Keeps lent M₂ R → BreaksAt M₁ R t → Judged M₁ M₂ R (record { keeper = Second; node = t })
+  judged-second t kept broken = record {
+    first = λ e. absurd (let z : ◌≡◌ {A = ℕ} 0 1 = cc in omega arith);
+    second = λ e. (kept, broken);
+  }
+
+-- a machine that doesn't keep a rule breaks it at some start node
+pub some-break : (M R : List ℕ) (o : Option ℕ) → FirstBreak M R o → (Keeps lent M R → ⊥) → IsSome o
+some-break M R None kept n = absurd (n kept)
+some-break M R (Some s) broken n = refl

@@ -1,8 +1,9 @@
 -- Which of two machines keeps a rule, and where the other breaks it.
-use Rattle.std.specs.Prelude.{◌≡◌, ℕ, ◌*◌, List, true, false}
+use Rattle.std.specs.Prelude.{◌≡◌, ℕ, ◌*◌, List}
 use Rattle.sheets.specs.Format.{lines_most}
 use Rattle.sheets.specs.Questions.{first_no}
 use Rattle.sheets.specs.Rules.{lent}
+use Rattle.sheets.specs.declared.refusal.Side.TheVariants.{First, Second}
 use Rattle.truth.specs.Sizes.{row_words}
 use Rattle.truth.specs.Truth.{Keeps}
 use Rattle.truth.specs.Labelling.{label_questions}
@@ -23,5 +24,5 @@ pub record Telling (M₁ M₂ R : List ℕ) : Type 0 where
 
 -- one machine keeps the rule, and the node is the first start node of the other where its last line is not true
 pub record Judged (M₁ M₂ R : List ℕ) (v : Verdict) : Type 0 where
-  pub first : v.first ≡ true → Keeps lent M₁ R × BreaksAt M₂ R v.node
-  pub second : v.first ≡ false → Keeps lent M₂ R × BreaksAt M₁ R v.node
+  pub first : v.keeper ≡ First → Keeps lent M₁ R × BreaksAt M₂ R v.node
+  pub second : v.keeper ≡ Second → Keeps lent M₂ R × BreaksAt M₁ R v.node

@@ -15,7 +15,5 @@ fn main(rt: HostRuntime) -> io::Result<()> {
     let n = full::read_full(&mut rt.stdin(), &mut input)?;
     let mut rule = [0u16; limits::RULE_WORDS];
     let said = answer::answer_to(&input[..n], &mut rule);
-    let answer = said.answer;
-    let verdict = said.verdict;
-    printing::print(&mut rt.stdout(), answer, verdict, &rule)
+    printing::print(&mut rt.stdout(), said, &rule)
 }

@@ -1,62 +1,46 @@
 // The answer in words, to a writer. Each function is proved safe and ends.
 use crate::verdict::Verdict;
-use comparison::compare::Answer;
+use input::refused::Refused;
 use sentences::printing;
+use sheets::refusal::Side;
 use sheets::rules;
 use std::io;
 use std::io::Write;
-use text::say;
-use text::say::{number, text};
 
 // Prints what is said of the input; the rule stands at the head of the space.
 pub fn print<W: Write>(
     out: &mut W,
-    answer: Answer,
-    verdict: Verdict,
+    said: Result<Option<Verdict>, Refused>,
     rule: &[u16],
 ) -> io::Result<()> {
-    match answer {
-        Answer::Refused { question, sheet } => say::refusal(out, question, sheet),
-        Answer::Equal => text(
+    match said {
+        Ok(None) => writeln!(
             out,
-            b"The two machines are equal: every rule is kept by both or by neither. A replacement needs no rehearsal call.\n",
+            "The two machines are equal: every rule is kept by both or by neither. A replacement needs no rehearsal call."
         ),
-        Answer::Unequal => {
-            text(
+        Ok(Some(verdict)) => {
+            writeln!(
                 out,
-                b"The two machines are unequal. One of them keeps this rule and the other does not:\n",
+                "The two machines are unequal. One of them keeps this rule and the other does not:"
             )?;
             printing::print_sentence(out, rule)?;
-            text(out, b"Line by line:\n")?;
+            writeln!(out, "Line by line:")?;
             printing::print_rule(out, rule)?;
             print_verdict(out, verdict, rules::lines(rule))
         }
+        Err(refused) => writeln!(out, "refused: {refused}"),
     }
 }
 
 // Which machine keeps the rule, its last line, and where the other breaks it.
 fn print_verdict<W: Write>(out: &mut W, verdict: Verdict, last: u16) -> io::Result<()> {
-    if verdict.first {
-        print_sides(out, b"first", b"second", last, verdict.node)
-    } else {
-        print_sides(out, b"second", b"first", last, verdict.node)
-    }
-}
-
-fn print_sides<W: Write>(
-    out: &mut W,
-    keeper: &[u8],
-    breaker: &[u8],
-    last: u16,
-    node: u16,
-) -> io::Result<()> {
-    text(out, b"The ")?;
-    text(out, keeper)?;
-    text(out, b" machine keeps the rule, line ")?;
-    number(out, last)?;
-    text(out, b". The ")?;
-    text(out, breaker)?;
-    text(out, b" breaks it at its start node ")?;
-    number(out, node)?;
-    text(out, b".\n")
+    let (keeper, breaker) = match verdict.keeper {
+        Side::First => ("first", "second"),
+        Side::Second => ("second", "first"),
+    };
+    let node = verdict.node;
+    writeln!(
+        out,
+        "The {keeper} machine keeps the rule, line {last}. The {breaker} breaks it at its start node {node}."
+    )
 }

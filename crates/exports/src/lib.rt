@@ -1,4 +1,5 @@
-// The proved code as functions over numbers and slices, in the form that C calls: exports_c hands each of them to C.
+// The proved code as functions over numbers and slices, in the form that C calls: exports_c hands each of them to C. C has no Result and no
+// Option, so that 0 stands for none here, and each call is told for itself.
 #![tactic(auto)]
 
 ghost use Rattle.std.specs.Prelude.{◌≡◌};
@@ -13,7 +14,7 @@ ghost use Rattle.comparison.specs.CompareAnswers.{CompareAnswer};
 use comparison::compare;
 use comparison::compare::Answer;
 use sheets::checks;
-use sheets::checks::Check;
+use sheets::refusal::Refusal;
 use truth::labelling::Labelled;
 use truth::pairs::Pair;
 use truth::path::Shown;
@@ -23,10 +24,9 @@ use truth::{labelling, pairs, path};
 pub fn toqshenay_check_machine(m: &[u16]) -> u16
     ensures { result ≡ machine_refusal m.now }
 {
-    let answer = checks::check_machine(m);
-    match answer {
-        Check::Accepted => 0,
-        Check::Refused { question, sheet: _ } => question,
+    match checks::check_machine(m) {
+        Ok(()) => 0,
+        Err(refusal) => refusal.number(),
     }
 }
 
@@ -34,10 +34,9 @@ pub fn toqshenay_check_machine(m: &[u16]) -> u16
 pub fn toqshenay_check_rules(r: &[u16]) -> u16
     ensures { result ≡ rule_refusal lent r.now }
 {
-    let answer = checks::check_rules(r);
-    match answer {
-        Check::Accepted => 0,
-        Check::Refused { question, sheet: _ } => question,
+    match checks::check_rules(r) {
+        Ok(()) => 0,
+        Err(refusal) => refusal.number(),
     }
 }
 
@@ -58,9 +57,9 @@ pub fn toqshenay_label(
     tell_label(answer, sheet, kept, count, percent)
 }
 
-// The numbers of labelling's answer.
+// The numbers of labelling's answer: what an answer does not tell is 0.
 fn tell_label(
-    answer: Labelled,
+    answer: Result<Labelled, Refusal>,
     sheet: &mut u16,
     kept: &mut u16,
     count: &mut u32,
@@ -68,51 +67,47 @@ fn tell_label(
 ) -> u16
     ensures { record { question = result; sheet = sheet.new; kept = kept.new; count = count.new; percent = percent.new } ≡ label_numbers answer }
 {
+    *sheet = 0;
+    *kept = 0;
+    *count = 0;
+    *percent = 0;
     match answer {
-        Labelled::Refused { question, sheet: s } => {
-            *sheet = s;
-            *kept = 0;
-            *count = 0;
-            *percent = 0;
-            question
-        }
-        Labelled::Done {
-            kept: k,
-            count: c,
-            percent: p,
-        } => {
-            *sheet = 0;
-            *kept = k as u16;
-            *count = c;
-            *percent = p;
+        Ok(found) => {
+            *kept = found.kept as u16;
+            *count = found.count;
+            *percent = found.percent;
             0
+        }
+        Err(refusal) => {
+            *sheet = refusal.sheet();
+            refusal.number()
         }
     }
 }
 
 // The numbers of a path's answer: the question that refuses, and its sheet, or 0; then the number of pairs, 0 where there is no path,
 // and the place that the last pair goes back to.
-fn tell_path(answer: Shown, sheet: &mut u16, length: &mut u16, back: &mut u16) -> u16
+fn tell_path(
+    answer: Result<Option<Shown>, Refusal>,
+    sheet: &mut u16,
+    length: &mut u16,
+    back: &mut u16,
+) -> u16
     ensures { record { question = result; sheet = sheet.new; size = length.new; back = back.new } ≡ path_numbers answer }
 {
+    *sheet = 0;
+    *length = 0;
+    *back = 0;
     match answer {
-        Shown::Refused { question, sheet: s } => {
-            *sheet = s;
-            *length = 0;
-            *back = 0;
-            question
-        }
-        Shown::NoPath => {
-            *sheet = 0;
-            *length = 0;
-            *back = 0;
+        Ok(None) => 0,
+        Ok(Some(shown)) => {
+            *length = shown.length;
+            *back = shown.back;
             0
         }
-        Shown::Path { length: l, back: b } => {
-            *sheet = 0;
-            *length = l;
-            *back = b;
-            0
+        Err(refusal) => {
+            *sheet = refusal.sheet();
+            refusal.number()
         }
     }
 }
@@ -168,24 +163,20 @@ pub fn toqshenay_compare(
 }
 
 // The numbers of a comparison's answer.
-fn tell_compare(answer: Answer, sheet: &mut u16, unequal: &mut u16) -> u16
+fn tell_compare(answer: Result<Answer, Refusal>, sheet: &mut u16, unequal: &mut u16) -> u16
     ensures { record { question = result; sheet = sheet.new; unequal = unequal.new } ≡ compare_numbers answer }
 {
+    *sheet = 0;
+    *unequal = 0;
     match answer {
-        Answer::Refused { question, sheet: s } => {
-            *sheet = s;
-            *unequal = 0;
-            question
-        }
-        Answer::Equal => {
-            *sheet = 0;
-            *unequal = 0;
-            0
-        }
-        Answer::Unequal => {
-            *sheet = 0;
+        Ok(Answer::Equal) => 0,
+        Ok(Answer::Unequal) => {
             *unequal = 1;
             0
+        }
+        Err(refusal) => {
+            *sheet = refusal.sheet();
+            refusal.number()
         }
     }
 }

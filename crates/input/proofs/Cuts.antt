@@ -1,6 +1,7 @@
 -- Where the first sheet ends, by cases, the two sheets of bytes in lent words, and what a program answers to bytes from what it answers to
 -- sheets.
-use mathlib.Core.Path.{◌≡◌, refl, sym, ap, ◌∙◌}
+use Rattle.std.specs.Prelude.{Result, Ok, Err}
+use mathlib.Core.Path.{◌≡◌, refl, sym, ap, ◌∙◌, subst}
 use Prim.Native.Nat.{ℕ, ◌+◌, ◌-◌, ◌*◌, ◌/◌, ◌≤◌, ◌<◌, min}
 use native.Mathlib.Omega.{arith}
 use mathlib.Core.List.{List, ◌++◌}
@@ -10,9 +11,10 @@ use lib.Seq.{take-take, take-add, length-take-le, drop_at}
 use borrow.Author.Tests.{le-leb, lt-leb}
 use Rattle.sheets.specs.Machine.{q1}
 use Rattle.input.specs.Bytes.{readable, words_of}
-use Rattle.input.specs.Cut.{header_end, first_end, first_sheet, second_sheet, first_in, second_in, whole_in, TwoSheets}
+use Rattle.input.specs.Cut.{header_end, first_end, first_sheet, second_sheet, first_in, second_in, whole_in, IsCut, TwoSheets}
 use Rattle.input.specs.Replies.{Reply}
 use Rattle.input.specs.declared.cut.Cut.{Cut}
+use Rattle.input.specs.declared.cut.Unreadable.{Unreadable}
 use Rattle.input.proofs.WordLists.{words-length, words-whole}
 
 module _ (words : List ℕ) where
@@ -31,34 +33,36 @@ module _ (words : List ℕ) where
 -- ---- the two sheets of bytes in lent words
 
 module _ (bytes before : List ℕ) where
-  pub no-sheets : readable (2 * length before) (length bytes) ≡ false → TwoSheets bytes before before (record { refused = true; end = 0; count = 0 })
-  no-sheets other = record {
-    inside = record { ordered = omega arith; within = omega arith };
-    behind = refl;
-    refused = λ e. (other, refl);
-    taken = λ e. absurd (true≢false e);
+  pub no-sheets : readable (2 * length before) (length bytes) ≡ false → (e : Unreadable) → TwoSheets bytes before before (Err e)
+  no-sheets other e = record {
+    refused = λ e' is. (other, refl);
+    taken = λ cut is. absurd (let z : ◌≡◌ {A = ℕ} 0 1 = cc in omega arith);
   }
 
   pub two-sheets : readable (2 * length before) (length bytes) ≡ true → (after : List ℕ) (count end : ℕ)
       → count ≡ min (length bytes / 2) (length before) → after ≡ take count (words_of bytes) ++ drop count before → length after ≡ length before
       → end ≡ first_end (take count after) → end ≤ length (take count after)
-      → TwoSheets bytes before after (record { refused = false; end = end; count = count })
+      → TwoSheets bytes before after (Ok (record { end = end; count = count }))
   two-sheets ok after count end counted is size cut reached =
       let whole : take count after ≡ words_of bytes = words-whole (2 * length before) bytes before after count ok (omega arith) counted is in
       let within : count ≤ length after = omega arith in
       let head : length (take count (words_of bytes)) ≡ count = length-take-le count (words_of bytes) (omega (arith, words-length bytes)) in
-      record {
+      let cut : IsCut bytes before after (record { end = end; count = count }) = record {
         inside = record { ordered = omega (arith, length-take-le count after within); within = within };
         behind = ap (drop count) is ∙ drop_at (take count (words_of bytes)) (drop count before) count head;
-        refused = λ e. absurd (true≢false (sym e));
-        taken = λ e. (ok, whole, rw whole at cut);
+        whole = whole;
+        end = rw whole at cut;
+      } in
+      record {
+        refused = λ e is. absurd (let z : ◌≡◌ {A = ℕ} 0 1 = cc in omega arith);
+        taken = λ cut' is. (ok, let same : record { end = end; count = count } ≡ cut' = cc in subst (IsCut bytes before after) same cut);
       }
 
 -- the parts of the words that the cut says are the two sheets
-module _ {bytes before after : List ℕ} {cut : Cut} (h : TwoSheets bytes before after cut) (e : cut.refused ≡ false) where
+module _ {bytes before after : List ℕ} {cut : Cut} (h : IsCut bytes before after cut) where
   first_part : first_in after cut ≡ first_sheet (words_of bytes)
   unfolding first_sheet
-  first_part = rw (← (h.taken e).2, ← (h.taken e).1) (sym (take-take cut.end cut.count after h.inside.ordered))
+  first_part = rw (← h.end, ← h.whole) (sym (take-take cut.end cut.count after h.inside.ordered))
 
   second-part : second_in after cut ≡ second_sheet (words_of bytes)
   unfolding second_sheet
@@ -66,24 +70,25 @@ module _ {bytes before after : List ℕ} {cut : Cut} (h : TwoSheets bytes before
       let size : cut.end + (cut.count - cut.end) ≡ cut.count = omega (arith, h.inside.ordered) in
       let head : length (first_in after cut) ≡ cut.end = length-take-le cut.end after (omega (arith, h.inside.ordered, h.inside.within)) in
       let split : whole_in after cut ≡ first_in after cut ++ second_in after cut = rw size at (take-add cut.end (cut.count - cut.end) after) in
-      rw (← (h.taken e).2, ← (h.taken e).1, split) (sym (drop_at (first_in after cut) (second_in after cut) cut.end head))
+      rw (← h.end, ← h.whole, split) (sym (drop_at (first_in after cut) (second_in after cut) cut.end head))
 
 -- ---- the answer to bytes, from that to the two sheets in lent words, with space for so many
 
-module _ {bytes before after : List ℕ} {cut : Cut} (h : TwoSheets bytes before after cut) (room : ℕ) (size : length before ≡ room)
-    {Refused : Type 0} {Answered : List ℕ → List ℕ → Type 0} where
-  pub reply-refused : cut.refused ≡ true → Refused → Reply (2 * room) bytes Refused Answered
-  reply-refused e r =
-      let other = rw size at (h.refused e).0 in
+module _ {bytes before after : List ℕ} {result : Result Cut Unreadable} (h : TwoSheets bytes before after result) (room : ℕ)
+    (size : length before ≡ room) {Refused : Type 0} {Answered : List ℕ → List ℕ → Type 0} where
+  pub reply-refused : {e : Unreadable} → result ≡ Err e → Refused → Reply (2 * room) bytes Refused Answered
+  reply-refused {e} is r =
+      let other = rw size at (h.refused e is).0 in
       record { refused = λ z. r; answered = λ ok. absurd (true≢false (sym ok ∙ other)) }
 
-  pub reply-answered : cut.refused ≡ false → {first second : List ℕ} → first ≡ first_in after cut → second ≡ second_in after cut
+  pub reply-answered : {cut : Cut} → result ≡ Ok cut → {first second : List ℕ} → first ≡ first_in after cut → second ≡ second_in after cut
       → Answered first second → Reply (2 * room) bytes Refused Answered
-  reply-answered e is₁ is₂ a =
-      let ok = rw size at (h.taken e).0 in
+  reply-answered {cut} is is₁ is₂ a =
+      let ok = rw size at (h.taken cut is).0 in
+      let cut = (h.taken cut is).1 in
       record {
         refused = λ other. absurd (true≢false (sym ok ∙ other));
-        answered = λ z. rw (is₁ ∙ first_part h e, is₂ ∙ second-part h e) at a;
+        answered = λ z. rw (is₁ ∙ first_part cut, is₂ ∙ second-part cut) at a;
       }
 
 -- a fact that either answer gives

@@ -7,3 +7,4 @@ pub mod RefusedLine
 pub mod JoinedSheets
 pub mod WorkedInput
 pub mod Turning
+pub mod AskedCalls

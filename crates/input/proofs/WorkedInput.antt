@@ -8,7 +8,7 @@ use Rattle.sheets.specs.Machine.{q1}
 use Rattle.sheets.specs.Worked.{M1, M2}
 use Rattle.input.specs.Bytes.{words_of, bytes_of}
 use Rattle.input.specs.Cut.{first_end, first_sheet, second_sheet}
-use Rattle.text.specs.Decimals.{digits, decimal}
+use Rattle.std.specs.Fmt.{digits}
 use Rattle.input.specs.Lines.{refused_line}
 
 -- end result
@@ -27,5 +27,5 @@ pub record InputCases : Type 0 where
   pub two : refused_line 22 0 ≡ 114 ∷ 101 ∷ 102 ∷ 117 ∷ 115 ∷ 101 ∷ 100 ∷ 32 ∷ 50 ∷ 50 ∷ 32 ∷ 48 ∷ 10 ∷ []
 
 pub input-cases : InputCases
-unfolding refused_line decimal digits bytes_of words_of first_sheet second_sheet first_end q1 word
+unfolding refused_line digits bytes_of words_of first_sheet second_sheet first_end q1 word
 input-cases = record { case-a-first = refl; case-a-second = refl; five = refl; two = refl }

@@ -1,10 +1,11 @@
 -- Where the first sheet ends. Document 01: "the first sheet's header gives its end, if question 1 says yes and the words reach that
 -- far, else all words are the first sheet and the second is empty".
-use Rattle.std.specs.Prelude.{◌≡◌, ℕ, ◌-◌, ◌*◌, ◌≤◌, List, true, false, cond, ◌&&◌, length, take, drop, leb}
+use Rattle.std.specs.Prelude.{◌≡◌, ℕ, ◌-◌, ◌*◌, ◌≤◌, List, Result, Ok, Err, true, false, cond, ◌&&◌, length, take, drop, leb}
 use Rattle.sheets.specs.Format.{machine_length}
 use Rattle.sheets.specs.Machine.{nodes, edges, q1}
 use Rattle.input.specs.Bytes.{readable, words_of}
 use Rattle.input.specs.declared.cut.Cut.{Cut}
+use Rattle.input.specs.declared.cut.Unreadable.{Unreadable}
 
 -- "the first sheet's header gives its end": the length that question 2 asks for
 abbrev pub header_end : List ℕ → ℕ
@@ -41,11 +42,15 @@ second_in words cut = take (cut.count - cut.end) (drop cut.end words)
 abbrev pub whole_in : List ℕ → Cut → List ℕ
 whole_in words cut = take cut.count words
 
--- The bytes of standard input as two sheets at the head of lent words; the words behind are as before. An odd number of bytes, or more
--- than two for each word, is refused, and then no word is taken.
-pub record TwoSheets (bytes before after : List ℕ) (cut : Cut) : Type 0 where
+-- the words of the bytes, cut where the first sheet ends; the words behind are as before
+pub record IsCut (bytes before after : List ℕ) (cut : Cut) : Type 0 where
   pub inside : Inside after cut
   pub behind : drop cut.count after ≡ drop cut.count before
-  pub refused : cut.refused ≡ true → (readable (2 * length before) (length bytes) ≡ false) × (cut.count ≡ 0)
-  pub taken : cut.refused ≡ false
-      → (readable (2 * length before) (length bytes) ≡ true) × (whole_in after cut ≡ words_of bytes) × (cut.end ≡ first_end (words_of bytes))
+  pub whole : whole_in after cut ≡ words_of bytes
+  pub end : cut.end ≡ first_end (words_of bytes)
+
+-- The bytes of standard input as two sheets at the head of lent words. An odd number of bytes, or more than two for each word, is refused,
+-- and then every word is as before.
+pub record TwoSheets (bytes before after : List ℕ) (result : Result Cut Unreadable) : Type 0 where
+  pub refused : (e : Unreadable) → result ≡ Err e → (readable (2 * length before) (length bytes) ≡ false) × (after ≡ before)
+  pub taken : (cut : Cut) → result ≡ Ok cut → (readable (2 * length before) (length bytes) ≡ true) × IsCut bytes before after cut

@@ -5,3 +5,4 @@ pub mod Cut
 pub mod Replies
 pub mod Lines
 pub mod Turns
+pub mod Refusals

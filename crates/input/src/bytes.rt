@@ -1,6 +1,6 @@
 // The bytes of standard input: how many are taken, the words that they make, and the bytes of words.
 ghost use Rattle.std.specs.Prelude.{◌≡◌, ◌+◌, ◌*◌, ◌/◌, ◌%◌, ◌<◌, min, ◌++◌, length, take, drop, set};
-ghost use Rattle.input.specs.Bytes.{word_of, words_of, bytes_of};
+ghost use Rattle.input.specs.Bytes.{words_of, bytes_of};
 ghost use Rattle.input.specs.Bytes as Bytes;
 
 // An even number of at most `most` bytes is taken; any other is answered by the refusal 0 0.
@@ -12,9 +12,9 @@ pub fn readable(count: usize, most: usize) -> bool
 
 // The word of two bytes.
 fn word_of(low: u8, high: u8) -> u16
-    ensures { result ≡ word_of low high }
+    ensures { result ≡ Bytes.word_of low high }
 {
-    (low as u16) + 256 * (high as u16)
+    u16::from_le_bytes([low, high])
 }
 
 // Puts the words of the bytes at the head of `words`, as many as there is space for, and answers how many; the words past them
@@ -23,11 +23,9 @@ pub fn words_of(bytes: &[u8], words: &mut [u16]) -> usize
     ensures counted { result ≡ min (length bytes.now / 2) (length words.old) }
     ensures written { words.new ≡ take result (words_of bytes.now) ++ drop result words.old }
 {
-    let n = least(bytes.len() / 2, words.len());
-    let mut i = 0;
-    while i < n {
+    let n = (bytes.len() / 2).min(words.len());
+    for i in 0..n {
         words[i] = word_of(bytes[2 * i], bytes[2 * i + 1]);
-        i += 1;
     }
     n
 }
@@ -38,11 +36,9 @@ pub fn bytes_of(words: &[u16], bytes: &mut [u8]) -> usize
     ensures counted { result ≡ 2 * min (length words.now) (length bytes.old / 2) }
     ensures written { bytes.new ≡ take result (bytes_of words.now) ++ drop result bytes.old }
 {
-    let n = least(words.len(), bytes.len() / 2);
-    let mut i = 0;
-    while i < n {
+    let n = words.len().min(bytes.len() / 2);
+    for i in 0..n {
         put_word(bytes, 2 * i, words[i]);
-        i += 1;
     }
     2 * n
 }
@@ -52,12 +48,7 @@ fn put_word(bytes: &mut [u8], at: usize, word: u16)
     requires { at + 1 < length bytes.old }
     ensures { bytes.new ≡ set (set bytes.old at (word % 256)) (at + 1) (word / 256) }
 {
-    bytes[at] = (word % 256) as u8;
-    bytes[at + 1] = (word / 256) as u8;
-}
-
-fn least(a: usize, b: usize) -> usize
-    ensures { result ≡ min a b }
-{
-    if a < b { a } else { b }
+    let [low, high] = word.to_le_bytes();
+    bytes[at] = low;
+    bytes[at + 1] = high;
 }

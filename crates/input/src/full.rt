@@ -11,6 +11,7 @@ pub fn read_full<R: Read>(from: &mut R, lent: &mut [u8]) -> io::Result<usize>
     ensures bytes { IfOk result (λ n. Consumes (R.remaining from.old) (R.remaining from.new) (take n lent.new)) }
     ensures end { IfOk result (λ n. n < length lent.new → IsAtEnd (R.remaining from.new)) }
 {
+    // A loop by hand: the reader says how far each turn goes.
     let mut done = 0;
     while done < lent.len() {
         let n = from.read(&mut lent[done..])?;

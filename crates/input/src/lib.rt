@@ -7,4 +7,5 @@ pub mod cut; // cut.rt: the two sheets of the input, and where the first ends
 pub mod full; // full.rt: a reader's bytes, until it ends or the lent space is full
 pub mod limits; // limits.rt: how much the programs take and lend
 pub mod line; // line.rt: the line of a refusal
+pub mod refused; // refused.rt: why a program refuses its input, and its words
 pub mod turn; // turn.rt: a sheet as text and as bytes

@@ -8,12 +8,11 @@ mod print; // print.rt: what is printed
 ghost use Rattle.label.specs.inner.AnsweredRows.{AnsweredRows};
 
 use answer::Answer;
+use input::refused::Refused;
 use input::{full, limits};
 use sheets::format;
 use std::io;
 use std::io::Write;
-use text::say;
-use truth::labelling::Labelled;
 use truth::sizes;
 
 // Reads one byte more than is taken, so that a longer input is noticed.
@@ -26,19 +25,21 @@ fn main(rt: HostRuntime) -> io::Result<()> {
 }
 
 // Prints an answer, whose rows lie in the space.
-fn show<W: Write>(out: &mut W, answer: Answer, rows: &[u64]) -> io::Result<()>
+fn show<W: Write>(out: &mut W, answer: Result<Answer, Refused>, rows: &[u64]) -> io::Result<()>
     requires { AnsweredRows rows.now answer }
 {
-    let labelled = answer.labelled;
-    match labelled {
-        Labelled::Refused { question, sheet } => say::refusal(out, question, sheet),
-        Labelled::Done {
-            kept,
-            count,
-            percent,
-        } => {
+    match answer {
+        Ok(answer) => {
+            let labelled = answer.labelled;
             print::rows(out, rows, answer.nodes, answer.lines)?;
-            print::verdict(out, answer.nodes, kept, count, percent)
+            print::verdict(
+                out,
+                answer.nodes,
+                labelled.kept,
+                labelled.count,
+                labelled.percent,
+            )
         }
+        Err(refused) => writeln!(out, "refused: {refused}"),
     }
 }

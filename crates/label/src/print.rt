@@ -4,57 +4,29 @@ ghost use Rattle.truth.specs.Sizes.{row_words};
 
 use std::io;
 use std::io::Write;
-use text::say;
 use truth::rows::Row;
 use truth::tables::line_row;
 
-// A node's number, if it is in the row.
-fn node_in<W: Write>(out: &mut W, row: Row, s: u16) -> io::Result<()> {
-    if row.has(s) {
-        say::text(out, b" ")?;
-        say::number(out, s)?;
-    }
-    Ok(())
-}
-
-// The numbers of the row's nodes.
-fn nodes_in<W: Write>(out: &mut W, row: Row, nodes: u16) -> io::Result<()> {
-    let mut s: u16 = 0;
-    while s < nodes {
-        s += 1;
-        node_in(out, row, s)?;
-    }
-    Ok(())
-}
-
-// `3 of 8 nodes`
-fn share<W: Write>(out: &mut W, count: u32, nodes: u16) -> io::Result<()> {
-    write!(out, "{count}")?;
-    say::text(out, b" of ")?;
-    say::number(out, nodes)?;
-    say::text(out, b" nodes")
-}
-
 // `line 2: true at 3 of 8 nodes: 1 4 5`
 fn line<W: Write>(out: &mut W, j: u16, nodes: u16, row: Row) -> io::Result<()> {
-    say::text(out, b"line ")?;
-    say::number(out, j)?;
-    say::text(out, b": true at ")?;
-    share(out, row.count(), nodes)?;
+    let count = row.count();
+    write!(out, "line {j}: true at {count} of {nodes} nodes")?;
     if !row.is_empty() {
-        say::text(out, b":")?;
+        write!(out, ":")?;
     }
-    nodes_in(out, row, nodes)?;
-    say::text(out, b"\n")
+    for s in 1..=nodes {
+        if row.has(s) {
+            write!(out, " {s}")?;
+        }
+    }
+    writeln!(out)
 }
 
 // Every line with the nodes where it is true.
 pub fn rows<W: Write>(out: &mut W, rows: &[u64], nodes: u16, lines: u16) -> io::Result<()>
     requires { row_words * lines ≤ length rows.now }
 {
-    let mut j: u16 = 0;
-    while j < lines {
-        j += 1;
+    for j in 1..=lines {
         line(out, j, nodes, line_row(rows, j as usize))?;
     }
     Ok(())
@@ -69,13 +41,9 @@ pub fn verdict<W: Write>(
     percent: u32,
 ) -> io::Result<()> {
     if kept {
-        say::text(out, b"the rule is kept: it is true at every start node\n")?;
+        writeln!(out, "the rule is kept: it is true at every start node")?;
     } else {
-        say::text(out, b"the rule is not kept\n")?;
+        writeln!(out, "the rule is not kept")?;
     }
-    say::text(out, b"true at ")?;
-    share(out, count, nodes)?;
-    say::text(out, b", ")?;
-    write!(out, "{percent}")?;
-    say::text(out, b" percent\n")
+    writeln!(out, "true at {count} of {nodes} nodes, {percent} percent")
 }

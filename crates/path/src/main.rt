@@ -9,17 +9,17 @@ mod print; // print.rt: what is printed
 ghost use Rattle.path.specs.inner.AnsweredLists.{AnsweredLists};
 
 use arguments::Asked;
+use input::refused::Refused;
 use input::{args, full, limits};
 use std::io;
 use std::io::{Read, Write};
-use text::say;
 use truth::path::Shown;
 use truth::sizes;
 
 fn usage<W: Write>(err: &mut W) -> io::Result<()> {
-    say::text(
+    writeln!(
         err,
-        b"usage: path LINE NODE, two numbers; line 0 is the last; a machine sheet and then a rule sheet on standard input\n",
+        "usage: path LINE NODE, two numbers; line 0 is the last; a machine sheet and then a rule sheet on standard input"
     )
 }
 
@@ -36,7 +36,7 @@ fn show<R: Read, W: Write>(from: &mut R, out: &mut W, line: u16, node: u16) -> i
 // Prints an answer, whose pairs lie in the lists.
 fn tell<W: Write>(
     out: &mut W,
-    answer: Shown,
+    answer: Result<Option<Shown>, Refused>,
     node: u16,
     nodes: &[u16],
     states: &[u16],
@@ -44,24 +44,26 @@ fn tell<W: Write>(
     requires { AnsweredLists nodes.now states.now answer }
 {
     match answer {
-        Shown::Refused { question, sheet } => say::refusal(out, question, sheet),
-        Shown::NoPath => print::no_path(out, node),
-        Shown::Path { length, back } => {
-            print::pairs(out, nodes, states, length)?;
-            print::back_to(out, back)
-        }
+        Ok(found) => match found {
+            None => print::no_path(out, node),
+            Some(shown) => {
+                print::pairs(out, nodes, states, shown.length)?;
+                print::back_to(out, shown.back)
+            }
+        },
+        Err(refused) => writeln!(out, "refused: {refused}"),
     }
 }
 
 // An argument that is missing or longer than 16 bytes is taken for an empty one.
 fn main(rt: HostRuntime) -> io::Result<()> {
     let mut first = [0u8; 16];
-    let n = args::arg(&rt, 1, &mut first);
+    let n = args::arg(&rt, 1, &mut first).unwrap_or(0);
     let mut second = [0u8; 16];
-    let m = args::arg(&rt, 2, &mut second);
+    let m = args::arg(&rt, 2, &mut second).unwrap_or(0);
     let asked = arguments::asked_for(args::arg_count(&rt), &first[..n], &second[..m]);
     match asked {
-        Asked::Path { line, node } => show(&mut rt.stdin(), &mut rt.stdout(), line, node),
-        Asked::Usage => usage(&mut rt.stderr()),
+        Some(Asked { line, node }) => show(&mut rt.stdin(), &mut rt.stdout(), line, node),
+        None => usage(&mut rt.stderr()),
     }
 }

@@ -1,6 +1,5 @@
 -- A page of text: how long its lines are, and how many are ended.
-use Rattle.std.specs.Prelude.{◌≡◌, ℕ, zero, suc, ◌<◌, ◌≤◌, cond, List, length, ◌==◌, slice_index}
-use Rattle.sentences.specs.declared.page.Cursor.{Cursor}
+use Rattle.std.specs.Prelude.{◌≡◌, ℕ, zero, suc, ◌≤◌, cond, List, length, ◌==◌, slice_index}
 
 -- how many bytes a page has, how many a line before its end, and how many lines a page
 abbrev pub page_size : ℕ
@@ -28,16 +27,9 @@ pub record Narrow (page : List ℕ) (n : ℕ) : Type 0 where
   pub narrow : (i : ℕ) → i ≤ n → column page i ≤ page_width
   pub few : ended page n ≤ page_height
 
--- the cursor stands behind such bytes, and says how long the last line is and how many are ended
-pub record Laid (page : List ℕ) (c : Cursor) : Type 0 where
+-- such bytes, of which the last line is so long and so many are ended
+pub record Laid (page : List ℕ) (n width height : ℕ) : Type 0 where
   pub size : length page ≡ page_size
-  pub above : Narrow page c.at
-  pub column : column page c.at ≡ c.column
-  pub ended : ended page c.at ≡ c.lines
-
--- bytes are put from one cursor to another, and those before stay
-pub record Follows (before : List ℕ) (c : Cursor) (after : List ℕ) (d : Cursor) : Type 0 where
-  pub size : length after ≡ length before
-  pub forth : c.at ≤ d.at
-  pub kept : (i : ℕ) → i < c.at → slice_index after i ≡ slice_index before i
-  pub laid : Laid before c → Laid after d
+  pub above : Narrow page n
+  pub column : column page n ≡ width
+  pub ended : ended page n ≡ height

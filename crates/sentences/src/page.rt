@@ -1,6 +1,10 @@
-// A page of text: bytes in a lent space, line below line, none of them too long and not too many.
-ghost use Rattle.sentences.specs.Pages.{page_size, page_width, page_height, Follows};
-ghost use Rattle.std.specs.Prelude.{◌≡◌, ◌<◌, ◌≢◌};
+// A page of text: bytes in a space of its own, line below line, none of them too long and not too many.
+ghost use Rattle.std.specs.Prelude.{◌≡◌, ◌++◌, ◌∷◌, [], length, OnOk, OnErr};
+ghost use Rattle.sentences.specs.Pages.{ended, Narrow};
+
+use std::fmt;
+use std::fmt::{Display, Write};
+use std::marker::Model;
 
 // How many bytes a page has, how many a line before its end, and how many lines a page.
 pub const SIZE: usize = 4096;
@@ -9,148 +13,145 @@ pub const WIDTH: u16 = 100;
 
 pub const HEIGHT: u16 = 40;
 
-// Where the next byte goes, how long the line is so far, how many lines are ended; `over` where a byte found no room.
-#[derive(Clone, Copy)]
-pub struct Cursor {
-    pub at: usize,
-    pub column: u16,
-    pub lines: u16,
-    pub over: bool,
+// The text is the first `at` bytes; its last line is `column` bytes long so far, and `lines` are ended. Nothing
+// is kept on the heap.
+#[derive(Drop)]
+pub struct Page {
+    bytes: [u8; SIZE],
+    at: usize,
+    column: u16,
+    lines: u16,
 }
 
-// The cursor of an empty page.
-pub fn top() -> Cursor
-    ensures { (result.at ≡ 0) × (result.column ≡ 0) × (result.lines ≡ 0) }
-{
-    Cursor {
-        at: 0,
-        column: 0,
-        lines: 0,
-        over: false,
+impl Model for Page {
+    ghost use Rattle.std.specs.Prelude.{ℕ, List, take};
+    ghost use Rattle.sentences.specs.Pages.{Laid};
+
+    ghost Value = { List ℕ };
+
+    ghost view = { λ p. take p.at p.bytes };
+
+    ghost invariant = { λ p. Laid p.bytes p.at p.column p.lines };
+}
+
+impl Page {
+    // The page with no text.
+    pub fn empty() -> Page
+        ensures { result ≡ [] }
+    {
+        Page {
+            bytes: [0; SIZE],
+            at: 0,
+            column: 0,
+            lines: 0,
+        }
+    }
+
+    // The text of the page.
+    pub fn text(&self) -> &[u8]
+        ensures whole { result.now ≡ self.now }
+        ensures narrow { Narrow result.now (length result.now) }
+    {
+        &self.bytes[..self.at]
+    }
+
+    // How many lines are ended.
+    pub fn lines(&self) -> u16
+        ensures { result ≡ ended self.now (length self.now) }
+    {
+        self.lines
+    }
+
+    // How many bytes the last line still has room for behind these words, if there is room for them.
+    pub fn room_behind<D: Display + Drop>(&self, words: D) -> Option<usize> {
+        let mut room = Room {
+            left: (WIDTH - self.column) as usize,
+        };
+        match room.write(words) {
+            Ok(()) => Some(room.left),
+            Err(_) => None,
+        }
+    }
+
+    // Ends the line and begins the next one, two blanks in for each level.
+    pub fn begin_line(&mut self, level: u16) -> fmt::Result {
+        self.end_line()?;
+        self.indent(level)
+    }
+
+    // Two blanks for each level.
+    pub fn indent(&mut self, level: u16) -> fmt::Result {
+        for _ in 0..level {
+            self.write_str("  ")?;
+        }
+        Ok(())
+    }
+
+    // Ends the line.
+    pub fn end_line(&mut self) -> fmt::Result
+        ensures ok { OnOk result (self.new ≡ self.old ++ 10 ∷ []) }
+        ensures err { OnErr result (self.new ≡ self.old) }
+    {
+        if self.at >= SIZE {
+            return Err(fmt::Error);
+        }
+        if self.lines >= HEIGHT {
+            return Err(fmt::Error);
+        }
+        self.bytes[self.at] = b'\n';
+        self.at += 1;
+        self.column = 0;
+        self.lines += 1;
+        Ok(())
+    }
+
+    // Puts one byte behind the text; a line end ends the line.
+    fn put_byte(&mut self, byte: u8) -> fmt::Result
+        ensures ok { OnOk result (self.new ≡ self.old ++ byte ∷ []) }
+        ensures err { OnErr result (self.new ≡ self.old) }
+    {
+        if byte == b'\n' {
+            return self.end_line();
+        }
+        if self.at >= SIZE {
+            return Err(fmt::Error);
+        }
+        if self.column >= WIDTH {
+            return Err(fmt::Error);
+        }
+        self.bytes[self.at] = byte;
+        self.at += 1;
+        self.column += 1;
+        Ok(())
     }
 }
 
-// Puts nothing, and says so.
-fn without_room(page: &mut [u8; SIZE], c: Cursor) -> Cursor
-    ensures { Follows page.old c page.new result }
-{
-    Cursor {
-        at: c.at,
-        column: c.column,
-        lines: c.lines,
-        over: true,
+// What is written goes behind the text, as far as there is room.
+impl Write for Page {
+    ghost write_str_gives = { λ before bytes after. after ≡ before ++ bytes };
+
+    fn write_str(&mut self, s: &str) -> fmt::Result {
+        for byte in s.as_bytes() {
+            self.put_byte(*byte)?;
+        }
+        Ok(())
     }
 }
 
-// Puts one byte, which ends no line, where there is room for it.
-fn put_there(page: &mut [u8; SIZE], c: Cursor, byte: u8) -> Cursor
-    requires { (c.at < page_size) × (c.column < page_width) × (byte ≢ 10) }
-    ensures { Follows page.old c page.new result }
-{
-    let at = c.at;
-    page[at] = byte;
-    let next = at + 1;
-    let column = c.column + 1;
-    Cursor {
-        at: next,
-        column: column,
-        lines: c.lines,
-        over: c.over,
-    }
+// A line that is measured and not put: how many more bytes it has room for.
+#[derive(Drop)]
+struct Room {
+    left: usize,
 }
 
-// Puts one byte, which ends no line.
-fn put_byte(page: &mut [u8; SIZE], c: Cursor, byte: u8) -> Cursor
-    ensures { Follows page.old c page.new result }
-{
-    if c.at >= SIZE {
-        return without_room(page, c);
+impl Write for Room {
+    fn write_str(&mut self, s: &str) -> fmt::Result {
+        match self.left.checked_sub(s.len()) {
+            Some(left) => {
+                self.left = left;
+                Ok(())
+            }
+            None => Err(fmt::Error),
+        }
     }
-    if c.column >= WIDTH {
-        return without_room(page, c);
-    }
-    if byte == b'\n' {
-        return without_room(page, c);
-    }
-    put_there(page, c, byte)
-}
-
-// Ends the line, where there is room for that.
-fn end_there(page: &mut [u8; SIZE], c: Cursor) -> Cursor
-    requires { (c.at < page_size) × (c.lines < page_height) }
-    ensures { Follows page.old c page.new result }
-{
-    let at = c.at;
-    page[at] = b'\n';
-    let next = at + 1;
-    let lines = c.lines + 1;
-    Cursor {
-        at: next,
-        column: 0,
-        lines: lines,
-        over: c.over,
-    }
-}
-
-// Ends the line.
-pub fn end_line(page: &mut [u8; SIZE], c: Cursor) -> Cursor
-    ensures { Follows page.old c page.new result }
-{
-    if c.at >= SIZE {
-        return without_room(page, c);
-    }
-    if c.lines >= HEIGHT {
-        return without_room(page, c);
-    }
-    end_there(page, c)
-}
-
-// Puts the bytes of a text of one line.
-pub fn put(page: &mut [u8; SIZE], c: Cursor, bytes: &[u8]) -> Cursor
-    ensures { Follows page.old c page.new result }
-{
-    let mut c = c;
-    let mut i = 0;
-    while i < bytes.len() {
-        c = put_byte(page, c, bytes[i]);
-        i += 1;
-    }
-    c
-}
-
-// Puts the digit of a number at a power of ten, where the number is not below it.
-fn put_digit(page: &mut [u8; SIZE], c: Cursor, n: u16, unit: u16) -> Cursor
-    requires { 0 < unit }
-    ensures { Follows page.old c page.new result }
-{
-    if n < unit {
-        return c;
-    }
-    put_byte(page, c, 48 + ((n / unit) % 10) as u8)
-}
-
-// Puts a number from 1 on in decimal digits.
-pub fn put_number(page: &mut [u8; SIZE], c: Cursor, n: u16) -> Cursor
-    ensures { Follows page.old c page.new result }
-{
-    let mut c = c;
-    let mut unit: u16 = 10000;
-    while unit > 0 {
-        c = put_digit(page, c, n, unit);
-        unit = unit / 10;
-    }
-    c
-}
-
-// Begins a line, two blanks in for each level.
-pub fn indent(page: &mut [u8; SIZE], c: Cursor, level: u16) -> Cursor
-    ensures { Follows page.old c page.new result }
-{
-    let mut c = c;
-    let mut i: u16 = 0;
-    while i < level {
-        c = put(page, c, b"  ");
-        i += 1;
-    }
-    c
 }

@@ -1,81 +1,84 @@
 // The parts of a line: what holds together exactly where the line holds, or exactly where it does not. A line that says "not" is what
 // it denies, the other way round; "neither" of two lines is taken apart into both.
-use sheets::lines::{Decoded, Line};
+use sheets::lines::Line;
 use sheets::{format, lines};
+use std::fmt;
+use std::fmt::Display;
 
-// A line as the comparison writes them; the one automaton is Next, which has one line.
-#[derive(Clone, Copy)]
-pub enum Says {
-    Signal(u16),
-    Not(u16),
-    Or(u16, u16),
-    Next(u16),
-    Other,
+// The mark of a line: that it holds, that it does not, both or none.
+#[derive(Clone, Copy, Debug, PartialEq, Eq)]
+pub struct Mark {
+    pub holds: bool,
+    pub fails: bool,
 }
 
-// What line j says.
-pub fn meaning(rule: &[u16], j: u16) -> Says {
-    let decoded = lines::decode(rule, j);
-    let Decoded::Formed(line) = decoded else {
-        return Says::Other;
+impl Mark {
+    pub const NONE: Mark = Mark {
+        holds: false,
+        fails: false,
     };
-    match line {
-        Line::Signal(i) => Says::Signal(i),
-        Line::Negation(k) => Says::Not(k),
-        Line::Either(i, k) => Says::Or(i, k),
-        Line::SomePath(p) => Says::Next(p.first),
-        Line::SomePathNot(_) => Says::Other,
+
+    pub const HOLDS: Mark = Mark {
+        holds: true,
+        fails: false,
+    };
+
+    pub const FAILS: Mark = Mark {
+        holds: false,
+        fails: true,
+    };
+
+    // Both marks at once.
+    fn and(self, other: Mark) -> Mark {
+        Mark {
+            holds: self.holds | other.holds,
+            fails: self.fails | other.fails,
+        }
+    }
+
+    // The other way round.
+    fn turned(self) -> Mark {
+        Mark {
+            holds: self.fails,
+            fails: self.holds,
+        }
     }
 }
 
-// A mark of a line: that it holds, that it does not, or, both added up, one and the other.
-pub const HOLDS: u8 = 1;
-
-pub const FAILS: u8 = 2;
-
-// How many lines have a mark: a written rule has fewer.
-pub const MARKS: usize = format::LINES;
-
-// The signals that are on and those that are off, bit i - 1 for signal i, and how many lines stay marked as parts. `room` is how many
-// more lines may be taken apart.
-#[derive(Clone, Copy)]
-pub struct Parts {
-    pub on: u16,
-    pub off: u16,
-    pub rest: u16,
-    room: u16,
-}
-
-pub fn mark_of(marks: &[u8; MARKS], j: u16) -> u8 {
-    let at = j as usize;
-    if at < MARKS {
-        return marks[at];
-    }
-    0
-}
-
-fn set_mark(marks: &mut [u8; MARKS], j: u16, mark: u8) {
-    let at = j as usize;
-    if at < MARKS {
-        marks[at] = mark;
+// What a line with the mark does.
+impl Display for Mark {
+    fn fmt<W: fmt::Write>(&self, f: &mut fmt::Formatter<W>) -> fmt::Result {
+        f.write_str(match (self.holds, self.fails) {
+            (true, false) => "holds",
+            (false, true) => "does not hold",
+            _ => "holds and does not hold",
+        })
     }
 }
 
-fn add_mark(marks: &mut [u8; MARKS], j: u16, mark: u8) {
-    let before = mark_of(marks, j);
-    set_mark(marks, j, before | mark);
+// The marks of the lines: a written rule has fewer lines than have a place here.
+#[derive(Drop)]
+struct Marks {
+    of: [Mark; format::LINES],
 }
 
-// The other way round.
-fn turned(mark: u8) -> u8 {
-    match mark {
-        1 => FAILS,
-        2 => HOLDS,
-        _ => mark,
+impl Marks {
+    fn get(&self, j: u16) -> Mark {
+        self.of.get(j as usize).copied().unwrap_or(Mark::NONE)
+    }
+
+    fn set(&mut self, j: u16, mark: Mark) {
+        if let Some(place) = self.of.get_mut(j as usize) {
+            *place = mark;
+        }
+    }
+
+    fn add(&mut self, j: u16, mark: Mark) {
+        self.set(j, self.get(j).and(mark));
     }
 }
 
-// The bit of signal i.
+// The bit of signal i in a set of signals: bit i - 1.
 fn bit(i: u16) -> u16 {
     if i == 0 {
         return 0;
@@ -83,76 +86,91 @@ fn bit(i: u16) -> u16 {
     1 << ((i - 1) % format::WORD_BITS)
 }
 
-fn with_signal(p: Parts, i: u16, mark: u8) -> Parts {
-    let mut q = p;
-    if mark & HOLDS != 0 {
-        q.on = q.on | bit(i);
-    }
-    if mark & FAILS != 0 {
-        q.off = q.off | bit(i);
-    }
-    q
+// The parts of a line: the signals that are on and those that are off, and the lines up to this one that stay marked as parts, `rest`
+// of them. `room` is how many more lines may be taken apart.
+#[derive(Drop)]
+pub struct Parts {
+    pub on: u16,
+    pub off: u16,
+    pub line: u16,
+    pub rest: u16,
+    room: u16,
+    marks: Marks,
 }
 
-fn with_line(p: Parts) -> Parts {
-    let mut q = p;
-    q.rest = std::num::wrapping_add_u16(q.rest, 1);
-    q
-}
-
-// Neither line i nor line j, if there is room to say so; otherwise the line stays marked.
-fn with_neither(marks: &mut [u8; MARKS], p: Parts, l: u16, i: u16, j: u16) -> Parts {
-    if p.room == 0 {
-        return with_line(p);
-    }
-    set_mark(marks, l, 0);
-    add_mark(marks, i, FAILS);
-    add_mark(marks, j, FAILS);
-    let mut q = p;
-    q.room = q.room - 1;
-    q
-}
-
-// Line l has this mark, and every line below it is done.
-fn take_apart(rule: &[u16], marks: &mut [u8; MARKS], p: Parts, l: u16, mark: u8) -> Parts {
-    let said = meaning(rule, l);
-    match said {
-        Says::Signal(i) => {
-            set_mark(marks, l, 0);
-            with_signal(p, i, mark)
-        }
-        Says::Not(j) => {
-            set_mark(marks, l, 0);
-            add_mark(marks, j, turned(mark));
-            p
-        }
-        Says::Or(i, j) => {
-            if mark == FAILS {
-                return with_neither(marks, p, l, i, j);
+impl Parts {
+    // The parts of line k with this mark: signals, and the lines that are left marked, at most 12.
+    pub fn of(rule: &[u16], k: u16, mark: Mark) -> Parts {
+        let mut parts = Parts {
+            on: 0,
+            off: 0,
+            line: k,
+            rest: 0,
+            room: 11,
+            marks: Marks {
+                of: [Mark::NONE; format::LINES],
+            },
+        };
+        parts.marks.set(k, mark);
+        for l in (1..=k).rev() {
+            let mark = parts.marks.get(l);
+            if mark != Mark::NONE {
+                parts.take_apart(rule, l, mark);
             }
-            with_line(p)
         }
-        _ => with_line(p),
+        parts
     }
-}
 
-// The parts of line k with this mark: signals, and the lines that are left marked, at most 12.
-pub fn gather(rule: &[u16], marks: &mut [u8; MARKS], k: u16, mark: u8) -> Parts {
-    set_mark(marks, k, mark);
-    let mut p = Parts {
-        on: 0,
-        off: 0,
-        rest: 0,
-        room: 11,
-    };
-    let mut l = k;
-    while l > 0 {
-        let line = l;
-        l -= 1;
-        let here = mark_of(marks, line);
-        if here != 0 {
-            p = take_apart(rule, marks, p, line, here);
+    pub fn mark_of(&self, l: u16) -> Mark {
+        self.marks.get(l)
+    }
+
+    // Line l has this mark, and every line below it is done.
+    fn take_apart(&mut self, rule: &[u16], l: u16, mark: Mark) {
+        match lines::decode(rule, l) {
+            Some(Line::Signal(i)) => {
+                self.marks.set(l, Mark::NONE);
+                self.add_signal(i, mark);
+            }
+            Some(Line::Negation(j)) => {
+                self.marks.set(l, Mark::NONE);
+                self.marks.add(j, mark.turned());
+            }
+            Some(Line::Either(i, j)) => {
+                if mark == Mark::FAILS {
+                    self.add_neither(l, i, j);
+                } else {
+                    self.keep();
+                }
+            }
+            _ => self.keep(),
         }
     }
-    p
+
+    fn add_signal(&mut self, i: u16, mark: Mark) {
+        if mark.holds {
+            self.on |= bit(i);
+        }
+        if mark.fails {
+            self.off |= bit(i);
+        }
+    }
+
+    // A line stays marked.
+    fn keep(&mut self) {
+        self.rest = self.rest.wrapping_add(1);
+    }
+
+    // Neither line i nor line j, if there is room to say so; otherwise line l stays marked.
+    fn add_neither(&mut self, l: u16, i: u16, j: u16) {
+        match self.room.checked_sub(1) {
+            Some(room) => {
+                self.room = room;
+                self.marks.set(l, Mark::NONE);
+                self.marks.add(i, Mark::FAILS);
+                self.marks.add(j, Mark::FAILS);
+            }
+            None => self.keep(),
+        }
+    }
 }

@@ -1,8 +1,8 @@
 -- What the program's arguments ask for: `bytes`, `text`, `machine` or `rules`; or `machine text` or `rules text`.
-use Rattle.std.specs.Prelude.{ℕ, List, [], ◌∷◌, Bool, true, false, cond, ◌&&◌, eqb}
+use Rattle.std.specs.Prelude.{ℕ, List, [], ◌∷◌, Option, Some, None, Bool, true, false, cond, ◌&&◌, eqb}
 use Rattle.sheet.specs.declared.answer.Sort.TheVariants.{Machine, Rules}
 use Rattle.sheet.specs.declared.asked.Asked.{Asked}
-use Rattle.sheet.specs.declared.asked.Asked.TheVariants.{Bytes, Text, Check, Usage}
+use Rattle.sheet.specs.declared.asked.Asked.TheVariants.{Bytes, Text, Check}
 
 -- the words, in ASCII
 abbrev pub bytes_word : List ℕ
@@ -25,13 +25,13 @@ same (x ∷ xs) [] = false
 same (x ∷ xs) (y ∷ ys) = eqb x y && same xs ys
 
 -- a word that names the sheet to check, of a text or of bytes
-abbrev pub check_of : Bool → List ℕ → Asked
-check_of text word = cond (same word machine_word) (Check Machine text) (cond (same word rules_word) (Check Rules text) Usage)
+abbrev pub check_of : Bool → List ℕ → Option Asked
+check_of text word = cond (same word machine_word) (Some (Check Machine text)) (cond (same word rules_word) (Some (Check Rules text)) None)
 
 -- one word
-abbrev pub alone : List ℕ → Asked
-alone word = cond (same word bytes_word) Bytes (cond (same word text_word) Text (check_of false word))
+abbrev pub alone : List ℕ → Option Asked
+alone word = cond (same word bytes_word) (Some Bytes) (cond (same word text_word) (Some Text) (check_of false word))
 
--- the number of the program's words, its own name among them, and the two after that
-abbrev pub asked_of : ℕ → List ℕ → List ℕ → Asked
-asked_of count first second = cond (eqb count 2) (alone first) (cond (eqb count 3 && same second text_word) (check_of true first) Usage)
+-- the number of the program's words, its own name among them, and the two after that; none where they ask for nothing that there is
+abbrev pub asked_of : ℕ → List ℕ → List ℕ → Option Asked
+asked_of count first second = cond (eqb count 2) (alone first) (cond (eqb count 3 && same second text_word) (check_of true first) None)

@@ -1,4 +1,3 @@
 -- The definitions of the program for one sheet.
 pub mod Arguments
 pub mod Program
-pub mod inner

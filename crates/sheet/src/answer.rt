@@ -1,40 +1,67 @@
 // What is answered to a sheet that is checked, and the line that says it.
+ghost use Rattle.std.specs.Prelude.{◌≡◌, Err};
 ghost use Rattle.sheets.specs.CheckAnswers.{Answered};
-ghost use Rattle.text.specs.Lines.{Holds};
-ghost use Rattle.sheet.specs.Program.{questions, CheckedBytes, CheckedText, Checked, check_line, line_bytes};
+ghost use Rattle.sheet.specs.Program.{questions, CheckedBytes, CheckedText, Checked, line_bytes};
 ghost use Rattle.sheet.specs.Program as Program;
+ghost use Rattle.input.specs.declared.refused.Refused.TheVariants.{Question};
+ghost use Rattle.sheet.specs.declared.answer.NotAccepted.TheVariants as Says;
 
+use input::refused::Refused;
 use input::{cut, limits, line};
 use sheets::checks;
-use sheets::checks::Check;
+use sheets::refusal::Refusal;
 use text::line::Line;
 use text::read;
-use text::read::{Kind, Place, Reading};
+use text::read::Fault;
 
 // Which sheet is checked.
-#[derive(Clone, Copy)]
+#[derive(Clone, Copy, Debug, PartialEq, Eq)]
 pub enum Sort {
     Machine,
     Rules,
 }
 
-// The answer to the input: a check's; or, where it is a text, its first fault, or that it is too long.
-#[derive(Clone, Copy)]
-pub enum Answer {
-    Checked { check: Check },
-    Fault { kind: Kind, at: Place },
+// Why the input is not accepted: it is refused; or, where it is a text, its first fault, or that it is too long.
+#[derive(Clone, Copy, Debug, PartialEq, Eq)]
+pub enum NotAccepted {
+    Refused(Refused),
+    Fault(Fault),
     Long,
+}
+
+impl From<Refused> for NotAccepted {
+    ghost from_gives = { λ refused reason. reason ≡ Says.Refused refused };
+
+    fn from(refused: Refused) -> NotAccepted {
+        NotAccepted::Refused(refused)
+    }
+}
+
+impl From<Refusal> for NotAccepted {
+    ghost from_gives = { λ refusal reason. reason ≡ Says.Refused (Question refusal) };
+
+    fn from(refusal: Refusal) -> NotAccepted {
+        NotAccepted::Refused(Refused::Question(refusal))
+    }
+}
+
+impl From<Fault> for NotAccepted {
+    ghost from_gives = { λ fault reason. reason ≡ Says.Fault fault };
+
+    fn from(fault: Fault) -> NotAccepted {
+        NotAccepted::Fault(fault)
+    }
 }
 
 // What is told: the answer, and its line for standard output, which is empty where the input is no sheet's text.
 #[derive(Clone, Copy)]
 pub struct Told {
-    pub answer: Answer,
+    pub answer: Result<(), NotAccepted>,
     pub line: Line,
 }
 
 // The check of a sheet's words.
-fn check_words(sort: Sort, words: &[u16]) -> Check
+fn check_words(sort: Sort, words: &[u16]) -> Result<(), Refusal>
     ensures { Answered (questions sort words.now) result }
 {
     match sort {
@@ -44,71 +71,58 @@ fn check_words(sort: Sort, words: &[u16]) -> Check
 }
 
 // The check of a sheet's bytes.
-fn check_bytes(sort: Sort, sheet: &[u8]) -> Check
+fn check_bytes(sort: Sort, sheet: &[u8]) -> Result<(), Refused>
     ensures { CheckedBytes sort sheet.now result }
 {
     let mut words = [0u16; limits::SHEETS_WORDS];
-    let cut = cut::sheets_of(sheet, &mut words);
-    if cut.refused {
-        return Check::Refused {
-            question: 0,
-            sheet: 0,
-        };
-    }
-    check_words(sort, cut::whole(&words, cut))
+    let cut = cut::sheets_of(sheet, &mut words)?;
+    check_words(sort, cut.whole(&words))?;
+    Ok(())
 }
 
 // The answer to a sheet's text.
-fn check_text(sort: Sort, text: &[u8]) -> Answer
+fn check_text(sort: Sort, text: &[u8]) -> Result<(), NotAccepted>
     ensures { CheckedText sort text.now result }
 {
     if limits::TEXT_BYTES < text.len() {
-        return Answer::Long;
+        return Err(NotAccepted::Long);
     }
     let mut words = [0u16; limits::SHEETS_WORDS];
-    let reading = read::words_of_text(text, &mut words);
-    match reading {
-        Reading::Words { count } => {
-            let check = check_words(sort, &words[..count]);
-            Answer::Checked { check: check }
-        }
-        Reading::Fault { kind, at } => Answer::Fault { kind: kind, at: at },
-    }
+    let count = read::words_of_text(text, &mut words)?;
+    check_words(sort, &words[..count])?;
+    Ok(())
 }
 
 // The answer to the bytes of standard input, which are a text or the sheet's bytes.
-fn answer_to(sort: Sort, text: bool, input: &[u8]) -> Answer
+fn answer_to(sort: Sort, text: bool, input: &[u8]) -> Result<(), NotAccepted>
     ensures { Checked sort text input.now result }
 {
     let as_text = text;
     if as_text {
         return check_text(sort, input);
     }
-    let check = check_bytes(sort, input);
-    Answer::Checked { check: check }
+    check_bytes(sort, input)?;
+    Ok(())
 }
 
-// The line of a check's answer.
-fn line_of_check(check: Check) -> Line
-    ensures { Holds result (check_line check) }
+// The line of an input that is not accepted.
+fn line_of_refusal(reason: NotAccepted) -> Line
+    ensures { result ≡ line_bytes (Err reason) }
 {
-    match check {
-        Check::Accepted => Line {
-            bytes: *b"accepted\n\0\0\0\0\0\0\0\0\0\0\0",
-            len: 9,
-        },
-        Check::Refused { question, sheet } => line::refused(question, sheet),
+    match reason {
+        NotAccepted::Refused(refused) => line::refused(refused.number(), refused.sheet()),
+        NotAccepted::Fault(_) => Line::empty(),
+        NotAccepted::Long => Line::empty(),
     }
 }
 
 // The line of an answer.
-fn line_of(answer: Answer) -> Line
-    ensures { Holds result (line_bytes answer) }
+fn line_of(answer: Result<(), NotAccepted>) -> Line
+    ensures { result ≡ line_bytes answer }
 {
     match answer {
-        Answer::Checked { check } => line_of_check(check),
-        Answer::Fault { kind: _, at: _ } => Line::empty(),
-        Answer::Long => Line::empty(),
+        Ok(()) => Line::of(b"accepted\n"),
+        Err(reason) => line_of_refusal(reason),
     }
 }
 
@@ -118,8 +132,5 @@ pub fn told_for(sort: Sort, text: bool, input: &[u8]) -> Told
 {
     let answer = answer_to(sort, text, input);
     let line = line_of(answer);
-    Told {
-        answer: answer,
-        line: line,
-    }
+    Told { answer, line }
 }

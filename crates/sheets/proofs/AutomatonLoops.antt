@@ -2,21 +2,19 @@
 -- transitions out of each state.
 use mathlib.Core.Path.{◌≡◌, refl, sym, ◌∙◌, ap}
 use mathlib.Core.Logic.{⊎_elim}
-use Prim.Native.Nat.{ℕ, zero, suc, ◌+◌, ◌-◌, ◌^◌, ◌≤◌, ◌<◌}
+use Prim.Native.Nat.{ℕ, zero, suc, ◌+◌, ◌-◌, ◌≤◌, ◌<◌}
 use native.Mathlib.Omega.{arith}
 use mathlib.Core.List.{List, [], ◌∷◌}
 use mathlib.Core.Bool.{Bool, true, false, not, ◌&&◌, and_assoc}
 use borrow.Author.Tests.{le-leb, lt-leb, ne_eqb}
 use lib.ListN.{length, get_or, take, drop}
 use lib.Seq.{length-take-le, get_or-take, ext_get_or}
-use lib.Dec.{T, leb, eqb, ltb, leb→le}
+use lib.Dec.{T, leb, eqb, leb→le}
 use Rattle.sheets.specs.Format.{chained_most, variables_most}
 use Rattle.sheets.specs.Words.{bit, within, all_of, how_many, chain}
 use Rattle.sheets.specs.Rules.{most, fits, lent, automata, states, variables, initial, states_of, transitions_of, mask, transitions_fit, automaton_fits, q9}
 use Rattle.sheets.specs.inner.Gathered.{Listed}
-use Rattle.sheets.specs.inner.Transitions.{Leaves}
 use Rattle.sheets.specs.declared.along.Numbers.{Numbers}
-use Rattle.sheets.specs.declared.transitions.Leaving.{Leaving}
 use Rattle.sheets.proofs.Tests.{and_left}
 use Rattle.sheets.proofs.Search.{le-or-gt, each_at}
 use Rattle.sheets.proofs.ListedChains.{past_end, rest-most}
@@ -62,11 +60,10 @@ module _ (ys : List ℕ) (all : Numbers) (listed : Listed ys all) (few : all.cou
       ext_get_or 0 (take all.count all.numbers) ys (size ∙ listed.count)
       (λ i l. get_or-take all.count all.numbers i 0 (omega (arith, size)) ∙ listed_at i)
 
--- question 12 of the state at position k
-pub fits-there : (R : List ℕ) (x k v : ℕ) (all : Numbers) (out : Leaving) {small : Bool} → Listed (states_of R x) all → all.count ≤ chained_most → v ≡ variables R x
-    → Leaves R all.numbers all.count (get_or all.numbers k 0) out → small ≡ ltb out.once (2 ^ (2 ^ v)) → (out.fits && small) ≡ fitting R x (get_or (states_of R x) k 0)
-fits-there R x k v all out listed few ev leaves e =
-    ap (λ b. out.fits && b) e ∙ leaves.fitting v ∙ rw (ev, listed-all (states_of R x) all listed few, listed_at (states_of R x) all listed few k)
+-- question 12 of each of them
+pub fits-listed : (R : List ℕ) (x v : ℕ) (all : Numbers) → Listed (states_of R x) all → all.count ≤ chained_most → v ≡ variables R x
+    → all_of (take all.count all.numbers) (λ q. transitions_fit R v (take all.count all.numbers) (transitions_of R q)) ≡ automaton_fits lent R x
+fits-listed R x v all listed few ev = rw (ev, listed-all (states_of R x) all listed few) (sym (fits-if-few R x listed.count few))
 
 -- ---- a chain that is read in pieces
 
@@ -92,19 +89,21 @@ module _ (p : ℕ → Bool) (f x : ℕ) (next : ℕ → ℕ) (all : Numbers) (li
     pub block-left : chained_most < f
     block-left = omega (arith, listed.count, rest-most (λ y k. next y) 3 f x)
 
-    block_more : all_of (chain f next x) p ≡ (all_of (take chained_most all.numbers) p && all_of (chain (f - chained_most) next (next (get_or all.numbers (chained_most - 1) 0))) p)
+    block_more : all_of (chain f next x) p ≡ (all_of all.numbers p && all_of (chain (f - chained_most) next (next (get_or all.numbers (chained_most - 1) 0))) p)
     block_more =
         let long : chained_most < length (chain f next x) = omega (arith, listed.count) in
-        let size : length (take chained_most all.numbers) ≡ chained_most = length-take-le chained_most all.numbers (omega (arith, listed.room)) in
-        let same : take chained_most all.numbers ≡ take chained_most (chain f next x) =
-        ext_get_or 0 (take chained_most all.numbers) (take chained_most (chain f next x)) (size ∙ sym (length-take-le chained_most (chain f next x) (omega arith)))
-        (λ i l. let m : i < chained_most = omega (arith, size) in get_or-take chained_most all.numbers i 0 m ∙ listed.each i m ∙ sym (get_or-take chained_most (chain f next x) i 0 m)) in
-        rw (same, listed.each (chained_most - 1) (omega arith), ← (chain-after f next x (chained_most - 1) (omega arith))) (all_split p chained_most (chain f next x))
+        let same : all.numbers ≡ take chained_most (chain f next x) =
+        ext_get_or 0 all.numbers (take chained_most (chain f next x)) (listed.room ∙ sym (length-take-le chained_most (chain f next x) (omega arith)))
+        (λ i l. let m : i < chained_most = omega (arith, listed.room) in listed.each i m ∙ sym (get_or-take chained_most (chain f next x) i 0 m)) in
+        all_split p chained_most (chain f next x)
+        ∙ ap (λ zs. all_of (take chained_most (chain f next x)) p && all_of zs p) (chain-after f next x (chained_most - 1) (omega arith))
+        ∙ ap (λ (y : ℕ). all_of (take chained_most (chain f next x)) p && all_of (chain (f - chained_most) next (next y)) p) (sym (listed.each (chained_most - 1) (omega arith)))
+        ∙ ap (λ zs. all_of zs p && all_of (chain (f - chained_most) next (next (get_or all.numbers (chained_most - 1) 0))) p) (sym same)
 
-    pub block-fails : {b : Bool} → b ≡ all_of (take chained_most all.numbers) p → b ≡ false → all_of (chain f next x) p ≡ false
+    pub block-fails : {b : Bool} → b ≡ all_of all.numbers p → b ≡ false → all_of (chain f next x) p ≡ false
     block-fails e f = block_more ∙ rw (sym e ∙ f)
 
-    pub block-passes : {b : Bool} {y : ℕ} → b ≡ all_of (take chained_most all.numbers) p → b ≡ true → y ≡ next (get_or all.numbers (chained_most - 1) 0) → all_of (chain f next x) p ≡ all_of (chain (f - chained_most) next y) p
+    pub block-passes : {b : Bool} {y : ℕ} → b ≡ all_of all.numbers p → b ≡ true → y ≡ next (get_or all.numbers (chained_most - 1) 0) → all_of (chain f next x) p ≡ all_of (chain (f - chained_most) next y) p
     block-passes e t ey = block_more ∙ rw (sym e ∙ t, ey)
 
 -- the variables that question 9 has bounded

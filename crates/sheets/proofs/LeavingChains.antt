@@ -1,10 +1,10 @@
 -- What is gathered of the transitions out of a state: one transition more in each field, and what each field has at the chain's end.
-use mathlib.Core.Path.{◌≡◌, refl, sym, ◌∙◌, ap, subst}
+use mathlib.Core.Path.{◌≡◌, refl, sym, ◌∙◌, ap}
 use mathlib.Core.Logic.{⊎_elim}
 use Prim.Native.Nat.{ℕ, ◌+◌, ◌^◌, ◌≤◌, ◌<◌}
 use native.Mathlib.Omega.{arith}
 use mathlib.Core.List.{List, [], ◌∷◌, map}
-use mathlib.Core.Bool.{Bool, true, false, not, ◌&&◌, ◌||◌, and-true, and-false, or-false}
+use mathlib.Core.Bool.{Bool, true, false, not, not-not, ◌&&◌, ◌||◌, and-true, and-false, and_comm, or-false}
 use borrow.Author.Tests.{lt-ltb, eq-eqb}
 use lib.ListN.{length, get_or, take}
 use lib.Seq.{length-take-le, get_or-take}
@@ -13,18 +13,19 @@ use lib.Dec.{T, leb, ltb, eqb, eqb→eq, ltb→lt}
 use Rattle.sheets.specs.Format.{transition_words, transitions_from, chained_most}
 use Rattle.sheets.specs.Words.{bit, indicator, how_many, all_of, any_of, member}
 use Rattle.sheets.specs.inner.Positions.{some_below, stands_at}
-use Rattle.sheets.specs.Records.{record_word}
+use Rattle.sheets.specs.Records.{record_word, record_at}
+use Rattle.sheets.specs.inner.Walkers.{records}
 use Rattle.sheets.specs.Rules.{automata, states, transitions, first_transition, transition_word, transitions_of, transition_target, mask, distinct, transitions_fit, leads}
-use Rattle.sheets.specs.inner.Gathered.{records, Along}
+use Rattle.sheets.specs.inner.Gathered.{Along, Never, Until}
 use Rattle.sheets.specs.inner.Transitions.{Left, LeavingTaken, Leaves}
-use Rattle.sheets.specs.declared.words.Step.{Step}
-use Rattle.sheets.specs.declared.words.Step.TheVariants.{Record}
+use Rattle.sheets.specs.declared.states.Positions.{Positions}
+use Rattle.sheets.specs.declared.states.States.{States}
 use Rattle.sheets.specs.declared.transitions.Leaving.{Leaving}
 use Rattle.sheets.proofs.Tests.{and_left, and_right, and_both, or_left, or_right, or_cases}
 use Rattle.sheets.proofs.BitLaws.{bit-or, bit-and, bit-none}
 use Rattle.sheets.proofs.Positions.{same_tests, place_in, place_of, some_at, some_in, some_same}
 use Rattle.sheets.proofs.Records.{rest}
-use Rattle.sheets.proofs.GatheredChains.{along-keeps, any-along, all-along}
+use Rattle.sheets.proofs.GatheredChains.{whole-way, along-keeps, any-along, all-along}
 use Rattle.sheets.proofs.TestedLists.{all_both, any-guarded, any_none, one_more, or-below, pow_pos, some-false, two-more}
 
 -- ---- a mask more at the positions of a set
@@ -34,49 +35,47 @@ module _ (masks : List ℕ) (set mask k : ℕ) where
   abbrev pub Masked : ℕ → Type 0
   Masked v = (w : ℕ) → bit v w ≡ (bit (get_or masks k 0) w || (bit mask w && bit set k))
 
-  pub masked-here : (v : ℕ) → v ≡ get_or masks k 0 → bit set k ≡ true → Masked (bit_or v mask)
-  masked-here v e s w = bit-or v mask w ∙ rw (e, s, and-true (bit mask w))
+  pub masked-more : (v kept : ℕ) (in_set : Bool) → v ≡ get_or masks k 0 → in_set ≡ bit set k → ((w : ℕ) → bit kept w ≡ (in_set && bit mask w)) → Masked (bit_or v kept)
+  masked-more v kept in_set e s is w = bit-or v kept w ∙ rw (e, is w, s, and_comm (bit set k) (bit mask w))
 
-  pub masked-not : (v : ℕ) → v ≡ get_or masks k 0 → bit set k ≡ false → Masked v
-  masked-not v e s w = rw (e, s, and-false (bit mask w)) (sym (or-false (bit (get_or masks k 0) w)))
+-- ---- a transition more, as the code has it
 
--- ---- a transition more, as `with_leaving` has it
+module _ (a : Leaving) (t m : ℕ) where
+  -- t stands at position k
+  abbrev at_k : ℕ → Bool
+  at_k = stands_at a.states.numbers a.states.count t
 
-module _ (a : Leaving) {s : Step} {x t m y : ℕ} (e : s ≡ Record x t m y) where
-  pub left-wide : chained_most < a.n → LeavingTaken a s a
-  left-wide h = subst (λ (s : Step). LeavingTaken a s a) (sym e) (λ small. absurd (omega arith))
-
-  module _ (here led : ℕ) (masks : List ℕ) (there again : Bool) where
+  module _ (here led both met more : Positions) (masks : List ℕ) (there again : Bool) where
     abbrev after : Leaving
     after = record {
       states = a.states;
-      n = a.n;
       masks = masks;
-      met = bit_or a.met here;
-      led = bit_or a.led led;
+      met = met;
+      led = more;
       once = bit_or a.once m;
       twice = bit_or a.twice (bit_and a.once m);
-      fits = a.fits && (there && not again);
+      fits = a.fits && (not there && not (not again));
     }
 
-    pub left-more : ((k : ℕ) → bit here k ≡ stands_at a.states a.n t k)
-        → ((k w : ℕ) → k < a.n → bit (get_or masks k 0) w ≡ (bit (get_or a.masks k 0) w || (bit m w && bit here k)))
-        → ((k : ℕ) → bit led k ≡ (not (eqb m 0) && bit here k))
-        → there ≡ some_below chained_most (bit here) → again ≡ some_below chained_most (bit (bit_and here a.met)) → LeavingTaken a s after
-    left-more at masked marked some met =
-        let on : there ≡ some_below chained_most (stands_at a.states a.n t) = some ∙ some_same (bit here) (stands_at a.states a.n t) at chained_most in
-        let twice : again ≡ some_below chained_most (λ k. stands_at a.states a.n t k && bit a.met k) =
-        met ∙ some_same (bit (bit_and here a.met)) (λ k. stands_at a.states a.n t k && bit a.met k) (λ k. bit-and here a.met k ∙ ap (λ b. b && bit a.met k) (at k)) chained_most in
-        subst (λ (s : Step). LeavingTaken a s after) (sym e) (λ small. record {
+    pub left-more : ((k : ℕ) → bit here.bits k ≡ at_k k)
+        → ((k w : ℕ) → k < chained_most → bit (get_or masks k 0) w ≡ (bit (get_or a.masks k 0) w || (bit m w && bit here.bits k)))
+        → ((k : ℕ) → bit led.bits k ≡ (not (eqb m 0) && bit here.bits k))
+        → there ≡ not (some_below chained_most (bit here.bits))
+        → ((k : ℕ) → bit both.bits k ≡ (bit here.bits k && bit a.met.bits k)) → again ≡ not (some_below chained_most (bit both.bits))
+        → ((k : ℕ) → bit met.bits k ≡ (bit a.met.bits k || bit here.bits k)) → ((k : ℕ) → bit more.bits k ≡ (bit a.led.bits k || bit led.bits k)) → Left a t m after
+    left-more at masked marked some both_is twice met_is more_is =
+        let on : there ≡ not (some_below chained_most at_k) = some ∙ ap not (some_same (bit here.bits) at_k at chained_most) in
+        let again_is : again ≡ not (some_below chained_most (λ k. at_k k && bit a.met.bits k)) =
+        twice ∙ ap not (some_same (bit both.bits) (λ k. at_k k && bit a.met.bits k) (λ k. both_is k ∙ ap (λ b. b && bit a.met.bits k) (at k)) chained_most) in
+        record {
           states = refl;
-          n = refl;
-          masks = λ k w l. masked k w l ∙ ap (λ b. bit (get_or a.masks k 0) w || (bit m w && b)) (at k ∙ ap (λ b. b && eqb t (get_or a.states k 0)) (lt-ltb k a.n l));
-          met = λ k. bit-or a.met here k ∙ ap (λ b. bit a.met k || b) (at k);
-          led = λ k. bit-or a.led led k ∙ ap (λ b. bit a.led k || b) (marked k ∙ ap (λ b. not (eqb m 0) && b) (at k));
+          masks = λ k w l. masked k w (omega (arith, a.states.few)) ∙ ap (λ b. bit (get_or a.masks k 0) w || (bit m w && b)) (at k ∙ ap (λ b. b && eqb t (get_or a.states.numbers k 0)) (lt-ltb k a.states.count l));
+          met = λ k. met_is k ∙ ap (λ b. bit a.met.bits k || b) (at k);
+          led = λ k. more_is k ∙ ap (λ b. bit a.led.bits k || b) (marked k ∙ ap (λ b. not (eqb m 0) && b) (at k));
           once = refl;
           twice = λ w. bit-or a.twice (bit_and a.once m) w ∙ ap (λ b. bit a.twice w || b) (bit-and a.once m w);
-          fits = rw (on, twice);
-        })
+          fits = rw (on, again_is, not-not (some_below chained_most at_k), not-not (some_below chained_most (λ k. at_k k && bit a.met.bits k)));
+        }
 
 module _ (states : List ℕ) (n : ℕ) (few : n ≤ chained_most) where
   -- t stands at some position
@@ -195,32 +194,32 @@ fitted p q r h ys d = last (all_of ys q) (all_of ys p) d ∙ ap (λ z. z && d) (
 
 -- ---- at the chain's end
 
-module _ (read : ℕ → ℕ → ℕ) (left x : ℕ) (a r : Leaving) (few : a.n ≤ chained_most) (along : Along LeavingTaken (records read 3 left x) a r) where
+module _ (read : ℕ → ℕ → ℕ) (left x : ℕ) (a r : Leaving) (along : Along LeavingTaken (records read 3 left x) a r) where
   abbrev Same : Leaving → Type 0
-  Same b = (b.states ≡ a.states) × (b.n ≡ a.n)
+  Same b = b.states ≡ a.states
 
   abbrev all : List ℕ
   all = rest read 3 left x
 
-  took : (b c : Leaving) (y : ℕ) → LeavingTaken b (Record y (read y 0) (read y 1) (read y 2)) c → Same b → Left b (read y 0) (read y 1) c × Same c
-  took b c y t q = let l = t (rw q.1 few) in (l, (l.states ∙ q.0, l.n ∙ q.1))
+  took : (b c : Leaving) (y : ℕ) → LeavingTaken b (record_at read 3 y) c → Same b → Left b (read y 0) (read y 1) c × Same c
+  took b c y t q = (t, t.states ∙ q)
 
-  masks-along : (k w : ℕ) → k < a.n
-      → bit (get_or r.masks k 0) w ≡ (bit (get_or a.masks k 0) w || any_of all (λ y. bit (read y 1) w && eqb (read y 0) (get_or a.states k 0)))
+  masks-along : (k w : ℕ) → k < a.states.count
+      → bit (get_or r.masks k 0) w ≡ (bit (get_or a.masks k 0) w || any_of all (λ y. bit (read y 1) w && eqb (read y 0) (get_or a.states.numbers k 0)))
   masks-along k w l =
-      any-along LeavingTaken read 3 (λ b. bit (get_or b.masks k 0) w) Same (λ y. bit (read y 1) w && eqb (read y 0) (get_or a.states k 0))
-      (λ b c y t q. let h = took b c y t q in (h.1, h.0.masks k w (rw q.1 l) ∙ ap (λ ss. bit (get_or b.masks k 0) w || (bit (read y 1) w && eqb (read y 0) (get_or ss k 0))) q.0))
-      left x a r along (refl, refl)
+      any-along LeavingTaken read 3 (λ b. bit (get_or b.masks k 0) w) Same (λ y. bit (read y 1) w && eqb (read y 0) (get_or a.states.numbers k 0))
+      (λ b c y t q. let h = took b c y t q in (h.1, h.0.masks k w (rw q l) ∙ ap (λ (ss : States). bit (get_or b.masks k 0) w || (bit (read y 1) w && eqb (read y 0) (get_or ss.numbers k 0))) q))
+      left x a r along refl
 
-  led-along : (k : ℕ) → bit r.led k ≡ (bit a.led k || any_of all (λ y. not (eqb (read y 1) 0) && stands_at a.states a.n (read y 0) k))
+  led-along : (k : ℕ) → bit r.led.bits k ≡ (bit a.led.bits k || any_of all (λ y. not (eqb (read y 1) 0) && stands_at a.states.numbers a.states.count (read y 0) k))
   led-along k =
-      any-along LeavingTaken read 3 (λ b. bit b.led k) Same (λ y. not (eqb (read y 1) 0) && stands_at a.states a.n (read y 0) k)
-      (λ b c y t q. let h = took b c y t q in (h.1, rw (q.0, q.1) at (h.0.led k))) left x a r along (refl, refl)
+      any-along LeavingTaken read 3 (λ b. bit b.led.bits k) Same (λ y. not (eqb (read y 1) 0) && stands_at a.states.numbers a.states.count (read y 0) k)
+      (λ b c y t q. let h = took b c y t q in (h.1, rw q at (h.0.led k))) left x a r along refl
 
   once-along : (e : ℕ) → ltb r.once (2 ^ e) ≡ (ltb a.once (2 ^ e) && all_of all (λ y. ltb (read y 1) (2 ^ e)))
   once-along e =
       all-along LeavingTaken read 3 (λ b. ltb b.once (2 ^ e)) Same (λ y. ltb (read y 1) (2 ^ e))
-      (λ b c y t q. let h = took b c y t q in (h.1, ap (λ o. ltb o (2 ^ e)) h.0.once ∙ or-below e b.once (read y 1))) left x a r along (refl, refl)
+      (λ b c y t q. let h = took b c y t q in (h.1, ap (λ o. ltb o (2 ^ e)) h.0.once ∙ or-below e b.once (read y 1))) left x a r along refl
 
   module _ (w : ℕ) (no-once : bit a.once w ≡ false) (no-twice : bit a.twice w ≡ false) where
     abbrev has : ℕ → Bool
@@ -240,48 +239,48 @@ module _ (read : ℕ → ℕ → ℕ) (left x : ℕ) (a r : Leaving) (few : a.n 
           l.0.twice w ∙ rw (h.2, h.3) (two-more h.0 (has y)),
           omega (arith, h.4),
         ))
-        left x a r along (0, (refl, refl), no-once, no-twice, omega arith) in
+        left x a r along (0, refl, no-once, no-twice, omega arith) in
         let e : end.0 ≡ whole = omega (arith, end.4) in
         (rw e at end.2, rw e at end.3)
 
-  module _ (no_met : (k : ℕ) → bit a.met k ≡ false) (fresh : a.fits ≡ true) where
-    fits_along : r.fits ≡ (all_of all (λ y. on a.states a.n few (read y 0)) && distinct (map (λ y. read y 0) all))
+  module _ (no_met : (k : ℕ) → bit a.met.bits k ≡ false) (fresh : a.fits ≡ true) where
+    fits_along : r.fits ≡ (all_of all (λ y. on a.states.numbers a.states.count a.states.few (read y 0)) && distinct (map (λ y. read y 0) all))
     unfolding all_of any_of distinct
     fits_along =
-        let fit = fitting a.states a.n few (λ y. read y 0) in
-        let whole : Bool = fit (bit a.met) all in
-        let end = along-keeps LeavingTaken read 3 (λ b ys. Same b × (whole ≡ (b.fits && fit (bit b.met) ys)))
+        let fit = fitting a.states.numbers a.states.count a.states.few (λ y. read y 0) in
+        let whole : Bool = fit (bit a.met.bits) all in
+        let end = along-keeps LeavingTaken read 3 (λ b ys. Same b × (whole ≡ (b.fits && fit (bit b.met.bits) ys)))
         (λ b c y ys t h.
         let l = took b c y t h.0 in (
           l.1,
-          h.1 ∙ fit-more a.states a.n few (λ y. read y 0) b.fits c.fits (bit b.met) (bit c.met) y ys (rw (h.0.0, h.0.1) at l.0.met) (rw (h.0.0, h.0.1) at l.0.fits),
+          h.1 ∙ fit-more a.states.numbers a.states.count a.states.few (λ y. read y 0) b.fits c.fits (bit b.met.bits) (bit c.met.bits) y ys (rw h.0 at l.0.met) (rw h.0 at l.0.fits),
         ))
-        left x a r along ((refl, refl), rw fresh) in
-        sym (fit_none a.states a.n few (λ y. read y 0) (bit a.met) all no_met ∙ end.1 ∙ and-true r.fits)
+        left x a r along (refl, rw fresh) in
+        sym (fit_none a.states.numbers a.states.count a.states.few (λ y. read y 0) (bit a.met.bits) all no_met ∙ end.1 ∙ and-true r.fits)
 
 -- from no transition, along those out of state q
-pub leaves-along : (R : List ℕ) (q base x left : ℕ) (a r : Leaving) → base ≡ transitions_from (automata R) (states R) → x ≡ first_transition R q → left ≡ transitions R → a.n ≤ chained_most → length a.states ≡ chained_most
-    → ((k : ℕ) → get_or a.masks k 0 ≡ 0) → a.met ≡ 0 → a.led ≡ 0 → a.once ≡ 0 → a.twice ≡ 0 → a.fits ≡ true
-    → Along LeavingTaken (records (record_word R base transition_words) transition_words left x) a r → Leaves R a.states a.n q r
+pub leaves-along : (R : List ℕ) (q base x left : ℕ) (a r : Leaving) → base ≡ transitions_from (automata R) (states R) → x ≡ first_transition R q → left ≡ transitions R → length a.states.numbers ≡ chained_most
+    → ((k : ℕ) → get_or a.masks k 0 ≡ 0) → ((k : ℕ) → bit a.met.bits k ≡ false) → ((k : ℕ) → bit a.led.bits k ≡ false) → a.once ≡ 0 → a.twice ≡ 0 → a.fits ≡ true
+    → Until LeavingTaken Never (records (record_word R base transition_words) transition_words left x) a r → Leaves R a.states.numbers a.states.count q r
 unfolding record_word transitions_fit leads
-leaves-along R q base x left a r eb ex el few room no-masks no_met no-led no-once no-twice fresh along =
+leaves-along R q base x left a r eb ex el room no-masks no_met no-led no-once no-twice fresh along =
     let read = transition_word R in
-    let ways : Along LeavingTaken (records read transition_words (transitions R) (first_transition R q)) a r = rw (eb, ex, el) at along in
+    let ways : Along LeavingTaken (records read transition_words (transitions R) (first_transition R q)) a r = rw (eb, ex, el) at (whole-way LeavingTaken Never (λ b d. d) (records (record_word R base transition_words) transition_words left x) a r along) in
     let ys = transitions_of R q in
     let count : (w : ℕ) → (bit r.once w ≡ leb 1 (how_many ys (λ y. bit (mask R y) w))) × (bit r.twice w ≡ leb 2 (how_many ys (λ y. bit (mask R y) w))) =
-    λ w. counted-along read (transitions R) (first_transition R q) a r few ways w (rw no-once (bit-none w)) (rw no-twice (bit-none w)) in
+    λ w. counted-along read (transitions R) (first_transition R q) a r ways w (rw no-once (bit-none w)) (rw no-twice (bit-none w)) in
     record {
       fitting = λ v.
           rw (
-            fits_along read (transitions R) (first_transition R q) a r few ways (λ k. rw no_met (bit-none k)) fresh,
-            once-along read (transitions R) (first_transition R q) a r few ways (2 ^ v),
+            fits_along read (transitions R) (first_transition R q) a r ways no_met fresh,
+            once-along read (transitions R) (first_transition R q) a r ways (2 ^ v),
             no-once,
             lt-ltb 0 (2 ^ (2 ^ v)) (pow_pos (2 ^ v)),
-          ) (fitted (λ y. ltb (mask R y) (2 ^ (2 ^ v))) (λ y. on a.states a.n few (transition_target R y)) (λ y. member (transition_target R y) (take a.n a.states))
-          (λ y. on-member a.states a.n few (omega (arith, room)) (transition_target R y)) ys (distinct (map (transition_target R) ys)));
+          ) (fitted (λ y. ltb (mask R y) (2 ^ (2 ^ v))) (λ y. on a.states.numbers a.states.count a.states.few (transition_target R y)) (λ y. member (transition_target R y) (take a.states.count a.states.numbers))
+          (λ y. on-member a.states.numbers a.states.count a.states.few (omega (arith, room, a.states.few)) (transition_target R y)) ys (distinct (map (transition_target R) ys)));
       some = λ w. (count w).0;
       several = λ w. (count w).1;
-      leading = λ k. led-along read (transitions R) (first_transition R q) a r few ways k
-          ∙ rw (no-led, bit-none k) (any-guarded (ltb k a.n) (λ y. not (eqb (mask R y) 0)) (λ y. eqb (transition_target R y) (get_or a.states k 0)) ys);
-      goes = λ k w l. masks-along read (transitions R) (first_transition R q) a r few ways k w l ∙ rw (no-masks k, bit-none w);
+      leading = λ k. led-along read (transitions R) (first_transition R q) a r ways k
+          ∙ rw (no-led k) (any-guarded (ltb k a.states.count) (λ y. not (eqb (mask R y) 0)) (λ y. eqb (transition_target R y) (get_or a.states.numbers k 0)) ys);
+      goes = λ k w l. masks-along read (transitions R) (first_transition R q) a r ways k w l ∙ rw (no-masks k, bit-none w);
     }

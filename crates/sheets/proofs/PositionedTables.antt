@@ -13,14 +13,12 @@ use Rattle.sheets.specs.Format.{chained_most}
 use Rattle.sheets.specs.Words.{bit, within, any_of}
 use Rattle.sheets.specs.Rules.{variables, states_of, accepting, transitions_of, transition_target, mask, automaton}
 use Rattle.sheets.specs.Positioned.{state_count, state_of, positioned}
-use Rattle.sheets.specs.inner.Gathered.{Listed}
 use Rattle.sheets.specs.inner.Tabled.{Tabled}
-use Rattle.sheets.specs.declared.along.Numbers.{Numbers}
+use Rattle.sheets.specs.declared.states.States.{States}
 use Rattle.sheets.specs.declared.position.ByPosition.{ByPosition}
 use Rattle.sheets.proofs.Tests.{passed}
 use Rattle.sheets.proofs.Search.{within_in}
 use Rattle.sheets.proofs.Positions.{below_split}
-use Rattle.sheets.proofs.AutomatonLoops.{listed_at}
 
 -- one mask out of position p more
 pub stored_at : (p : ℕ) (out masks : List ℕ) (k : ℕ) → chained_most * p + k < length out → ((j : ℕ) → j < k → get_or out (chained_most * p + j) 0 ≡ get_or masks j 0)
@@ -53,28 +51,25 @@ from_more R states n p out after masks few before here other goes i k l h w = �
     new : i ≡ p → bit (get_or after (chained_most * i + k) 0) w ≡ any_of (transitions_of R (get_or states i 0)) (λ y. bit (mask R y) w && eqb (transition_target R y) (get_or states k 0))
     new e = rw (e, here k h) (goes k w h)
 
-module _ (R : List ℕ) (x : ℕ) (a : ByPosition) (all : Numbers) (listed : Listed (states_of R x) all) (few : all.count ≤ chained_most) where
+module _ (R : List ℕ) (x : ℕ) (a : ByPosition) (all : States) (counted : all.count ≡ length (states_of R x)) (at : (k : ℕ) → get_or all.numbers k 0 ≡ get_or (states_of R x) k 0) where
   pub tabled : a.variables ≡ variables R x → a.count ≡ all.count → a.numbers ≡ all.numbers
       → ((i : ℕ) → bit a.accepting i ≡ (ltb i all.count && accepting R (get_or all.numbers i 0)))
       → From R all.numbers all.count all.count a.masks → Tabled (positioned R x) (state_count R x) (state_of R x) a
   unfolding positioned automaton
   tabled ev ec en accepts goes = record {
     variables = ev;
-    count = ec ∙ listed.count;
+    count = ec ∙ counted;
     initial = refl;
     accepting = λ p l.
         let e : p + 1 - 1 ≡ p = omega arith in
-        let h : p < all.count = omega (arith, listed.count) in
+        let h : p < all.count = omega (arith, counted) in
         rw (e, ← (at p)) (rw (lt-ltb p all.count h) at (accepts p));
     goes = λ p q w l m.
         let e : p + 1 - 1 ≡ p = omega arith in
         let f : q + 1 - 1 ≡ q = omega arith in
-        let h : p < all.count = omega (arith, listed.count) in
-        let k : q < all.count = omega (arith, listed.count) in
+        let h : p < all.count = omega (arith, counted) in
+        let k : q < all.count = omega (arith, counted) in
         let t = passed (within 1 (state_count R x) (q + 1)) (within_in 1 (state_count R x) (q + 1) (omega arith) (omega arith)) in
         rw (e, f, ← (at p), ← (at q), t) (goes p q h k w);
     numbers = λ p l. let e : p + 1 - 1 ≡ p = omega arith in rw (e, en) (at p);
   }
-    where
-      at : (k : ℕ) → get_or all.numbers k 0 ≡ get_or (states_of R x) k 0
-      at = listed_at (states_of R x) all listed few

@@ -1,6 +1,6 @@
 -- Positions, which count from 0: the elements of a list by their positions, and what a loop over positions has: a test that some
 -- position below n passes, a set of positions as the bits of a word, and a table of rows.
-use mathlib.Core.Path.{◌≡◌, refl, sym, ◌∙◌}
+use mathlib.Core.Path.{◌≡◌, refl, sym, ◌∙◌, ap}
 use mathlib.Core.Logic.{◌⊎◌, inl, inr, ⊎_elim}
 use Prim.Native.Nat.{ℕ, zero, suc, ◌+◌, ◌^◌, ◌≤◌, ◌<◌}
 use native.Mathlib.Numerals.{add-one}
@@ -8,10 +8,10 @@ use native.Mathlib.Omega.{arith}
 use mathlib.Core.List.{List, [], ◌∷◌}
 use mathlib.Core.Bool.{Bool, true, false, not, ◌&&◌, ◌||◌, and-true, and-false, or-false, or_assoc}
 use borrow.Author.Tests.{lt-ltb, le-ltb, eq-eqb, ne_eqb}
-use lib.ListN.{length, get_or, set, take}
-use lib.Seq.{length-take-le, get_or-take, get_or-set_same, get_or-set_other}
+use lib.ListN.{length, get_or, set}
+use lib.Seq.{get_or-set_same, get_or-set_other}
 use lib.Dec.{T, T_not, not_T, ltb, eqb, eqb→eq, eqb_refl}
-use Rattle.sheets.specs.Words.{bit, all_of, any_of, member}
+use Rattle.sheets.specs.Words.{bit, any_of, member}
 use Rattle.sheets.specs.inner.Positions.{some_below}
 use Rattle.sheets.proofs.Tests.{or_left, or_right, or_cases, passed, surely}
 use Rattle.sheets.proofs.Search.{le-or-gt}
@@ -42,27 +42,6 @@ place_of (y ∷ ys) x t =
     ⊎_elim (λ u. (0, omega arith, sym (eqb→eq x y u))) (λ u. let r = place_of ys x u in (suc r.0, omega arith, r.2))
     (or_cases (eqb x y) (member x ys) t)
 
--- each element passes, by positions
-module _ (p : ℕ → Bool) where
-  pub all-places : (xs : List ℕ) → ((i : ℕ) → i < length xs → p (get_or xs i 0) ≡ true) → all_of xs p ≡ true
-  unfolding all_of
-  all-places [] h = refl
-  all-places (x ∷ xs) h = rw (h 0 (omega arith)) (all-places xs (λ i l. h (suc i) (omega arith)))
-
-  pub place-fails : (xs : List ℕ) (i : ℕ) → i < length xs → p (get_or xs i 0) ≡ false → all_of xs p ≡ false
-  unfolding all_of
-  place-fails [] i l e = absurd (omega arith)
-  place-fails (x ∷ xs) zero l e = rw e
-  place-fails (x ∷ xs) (suc i) l e = rw (place-fails xs i (omega arith) e) (and-false (p x))
-
-  -- and each of the first n
-  module _ (xs : List ℕ) (n : ℕ) (room : n ≤ length xs) where
-    pub all-taken : ((i : ℕ) → i < n → p (get_or xs i 0) ≡ true) → all_of (take n xs) p ≡ true
-    all-taken h = all-places (take n xs) (λ i l. let m : i < n = omega (arith, length-take-le n xs room) in rw (get_or-take n xs i 0 m) (h i m))
-
-    pub taken-fails : (i : ℕ) → i < n → p (get_or xs i 0) ≡ false → all_of (take n xs) p ≡ false
-    taken-fails i l e = place-fails (take n xs) i (omega (arith, length-take-le n xs room)) (rw (get_or-take n xs i 0 l) e)
-
 -- ---- some position passes
 
 module _ (p : ℕ → Bool) where
@@ -73,9 +52,6 @@ module _ (p : ℕ → Bool) where
   pub some_more : (k : ℕ) → some_below (k + 1) p ≡ (some_below k p || p k)
   unfolding some_below
   some_more k = rw (add-one k)
-
-  pub some_next : (k : ℕ) → some_below k p ≡ false → p k ≡ false → some_below (k + 1) p ≡ false
-  some_next k e t = some_more k ∙ rw (e, t)
 
   pub some_at : (n : ℕ) → T (some_below n p) → (i : ℕ) × (i < n) × T (p i)
   unfolding some_below
@@ -89,9 +65,6 @@ module _ (p : ℕ → Bool) where
   some_in (suc n) i h t =
       ⊎_elim (λ le. or_right (some_below n p) (p n) (let e : i ≡ n = omega arith in rw e at t))
       (λ lt. or_left (some_below n p) (p n) (some_in n i (omega arith) t)) (le-or-gt n i)
-
-  pub some-met : (n i : ℕ) → i < n → p i ≡ true → some_below n p ≡ true
-  some-met n i h e = passed (some_below n p) (some_in n i h (rw e tt))
 
 pub some_same : (p q : ℕ → Bool) → ((i : ℕ) → p i ≡ q i) → (n : ℕ) → some_below n p ≡ some_below n q
 unfolding some_below
@@ -119,11 +92,9 @@ module _ (S M : ℕ → Bool) (x : Bool) where
   pub joined-none : x ≡ joined 0
   joined-none = rw (some-none (λ j. S j && M j)) (sym (or-false x))
 
-  pub joined-yes : (k : ℕ) (h : Bool) → h ≡ joined k → S k ≡ true → (h || M k) ≡ joined (k + 1)
-  joined-yes k h e t = rw (some_more (λ j. S j && M j) k, t, e) (or_assoc x (some_below k (λ j. S j && M j)) (M k))
-
-  pub joined-no : (k : ℕ) (h : Bool) → h ≡ joined k → S k ≡ false → h ≡ joined (k + 1)
-  joined-no k h e t = rw (some_more (λ j. S j && M j) k, t, or-false (some_below k (λ j. S j && M j))) e
+  -- with the row of k, if it is in the set
+  pub joined-next : (k : ℕ) (h g : Bool) → h ≡ joined k → g ≡ (h || (S k && M k)) → g ≡ joined (k + 1)
+  joined-next k h g e f = f ∙ rw (some_more (λ j. S j && M j) k, e) (or_assoc x (some_below k (λ j. S j && M j)) (S k && M k))
 
 -- ---- the positions below k that pass, as a set: one position more
 
@@ -152,6 +123,10 @@ module _ (p : ℕ → Bool) (i : ℕ) where
 
   pub up_to-no : (k : ℕ) (h : Bool) → h ≡ up_to k → p k ≡ false → h ≡ up_to (k + 1)
   up_to-no k h e t = rw (up_to-more k, t, or-false (up_to k)) e
+
+  -- with position k, if it passes
+  pub up_to-next : (k : ℕ) (h g : Bool) → h ≡ up_to k → g ≡ (h || (p k && eqb i k)) → g ≡ up_to (k + 1)
+  up_to-next k h g e f = f ∙ ap (λ b. b || (p k && eqb i k)) e ∙ sym (up_to-more k)
 
 -- ---- a table: what each row below k has, after one store more
 

@@ -1,28 +1,45 @@
--- A record of a chain as a step, and the chain from a record on.
+-- The chain from a record on, and what a walker has still to hand out.
 use mathlib.Core.Path.{◌≡◌, refl}
 use Prim.Native.Nat.{ℕ, zero, suc, ◌-◌}
 use native.Mathlib.Omega.{arith}
-use mathlib.Core.List.{List}
+use mathlib.Core.Logic.{⊎_elim}
+use mathlib.Core.List.{List, [], ◌∷◌}
+use mathlib.Core.Bool.{true, false, ◌||◌}
+use lib.Dec.{eqb, eqb→eq}
 use Rattle.sheets.specs.Words.{chain}
-use Rattle.sheets.specs.Records.{record_word, step_at}
-use Rattle.sheets.specs.declared.words.Step.TheVariants.{Record, End}
+use Rattle.sheets.specs.Records.{record_word, record_at}
+use Rattle.sheets.specs.inner.Walkers.{records, ahead}
+use Rattle.sheets.specs.declared.walker.Record.{Record}
+use Rattle.sheets.specs.declared.walker.Walker.{Walker}
+use Rattle.sheets.proofs.Tests.{or_left, or_right, or_cases}
 
-module _ (read : ℕ → ℕ → ℕ) (w : ℕ) where
-  pub step_end : (x : ℕ) → x ≡ 0 → step_at read w x ≡ End
-  unfolding step_at
-  step_end zero e = refl
-  step_end (suc x) e = absurd (omega arith)
-
-  pub step-record : (x : ℕ) → (x ≡ 0 → ⊥) → step_at read w x ≡ Record x (read x 0) (read x 1) (read x (w - 1))
-  unfolding step_at
-  step-record zero n = absurd (n refl)
-  step-record (suc x) n = refl
-
+module _ (read : ℕ → ℕ → ℕ) (width : ℕ) where
   -- the chain from a record on, of which f records may still be read
   abbrev pub rest : ℕ → ℕ → List ℕ
-  rest f x = chain f (λ x. read x (w - 1)) x
+  rest f x = chain f (λ y. read y (width - 1)) x
 
--- a record from its words
-pub read-record : (ws : List ℕ) (base w x l a b y : ℕ) → (x ≡ 0 → ⊥) → a ≡ record_word ws base w x 0 → b ≡ record_word ws base w x 1 → l ≡ w - 1
-    → y ≡ record_word ws base w x l → Record x a b y ≡ step_at (record_word ws base w) w x
-read-record ws base w x l a b y n ea eb el ey = rw (step-record (record_word ws base w) w x n, ← el, ea, eb, ey)
+  records-end : (left : ℕ) → records read width left 0 ≡ []
+  unfolding chain
+  records-end zero = refl
+  records-end (suc left) = refl
+
+  records-more : (left x : ℕ) → (left ≡ 0 → ⊥) → (x ≡ 0 → ⊥) → records read width left x ≡ record_at read width x ∷ records read width (left - 1) (read x (width - 1))
+  unfolding chain
+  records-more zero x l n = absurd (l refl)
+  records-more (suc left) zero l n = absurd (n refl)
+  records-more (suc left) (suc x) l n = let e : suc left - 1 ≡ left = omega arith in rw e
+
+module _ (w : Walker) where
+  -- at the chain's end, or where no more may be read
+  pub none-ahead : (eqb w.left 0 || eqb w.at 0) ≡ true → ahead w ≡ []
+  unfolding chain
+  none-ahead t =
+      ⊎_elim (λ z. rw (eqb→eq w.left 0 z)) (λ z. rw (eqb→eq w.at 0 z) (records-end (record_word w.words.now w.base w.width) w.width w.left))
+      (or_cases (eqb w.left 0) (eqb w.at 0) (rw t tt))
+
+  -- a record is handed out, and the walker moves to the one after it
+  pub one-ahead : (s : Record) → (eqb w.left 0 || eqb w.at 0) ≡ false → s ≡ record_at (record_word w.words.now w.base w.width) w.width w.at
+      → ahead w ≡ s ∷ ahead (record { words = w.words; base = w.base; width = w.width; at = s.next; left = w.left - 1 })
+  one-ahead s f e =
+      rw e (records-more (record_word w.words.now w.base w.width) w.width w.left w.at
+      (λ z. rw f at (or_left (eqb w.left 0) (eqb w.at 0) (rw z tt))) (λ z. rw f at (or_right (eqb w.left 0) (eqb w.at 0) (rw z tt))))

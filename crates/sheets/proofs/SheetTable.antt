@@ -107,12 +107,7 @@ module _ (M R : List ℕ) where
       whole-sheeted : Sheeted (sheet_questions M R ++ own)
       whole-sheeted = every-both (λ k i. (1 ≤ k) × (i ≡ sheet_of k)) (sheet_questions M R) own sheets-sheeted sheeted
 
-      -- a refusal's number gives its sheet
-      pub call-refused : (q : ℕ) → q ≡ whole.number → (q ≡ 0 → ⊥) → record { number = q; sheet = sheet_of q } ≡ whole
-      call-refused q e n =
-          let put = first-has (λ k i. (1 ≤ k) × (i ≡ sheet_of k)) (sheet_questions M R ++ own) whole-sheeted (λ z. n (e ∙ z)) in
-          λ k. record { number = e k; sheet = (ap sheet_of e ∙ sym put.1) k }
-
+      -- where the number is 0, nothing is refused
       pub call_none : 0 ≡ whole.number → no_refusal ≡ whole
       call_none e =
           let numbered = every_map (λ k i. (1 ≤ k) × (i ≡ sheet_of k)) (λ k i. 1 ≤ k) (λ k i h. h.0) (sheet_questions M R ++ own) whole-sheeted in

@@ -23,7 +23,7 @@ pub const VARIABLES_MOST: u16 = 4;
 
 pub const CHAINED_MOST: u16 = 16;
 
-// The same as lengths of arrays.
+// The same as lengths of arrays. A cast, since a const calls no `from`.
 pub const NODES: usize = NODES_MOST as usize;
 
 pub const LINES: usize = LINES_MOST as usize;
@@ -51,7 +51,7 @@ pub const TRANSITION_WORDS: u16 = 3;
 pub const LINE_WORDS: u16 = 6;
 
 // What a node's record looks like: its words, and the places of its signals, its start flag and its first edge.
-#[derive(Clone, Copy)]
+#[derive(Clone, Copy, Debug, PartialEq, Eq)]
 pub struct NodeForm {
     pub words: u16,
     pub signals: u16,
@@ -109,42 +109,42 @@ const LINE: u32 = LINE_WORDS as u32;
 pub fn edges_from(f: NodeForm, n: u16) -> u32
     ensures { result ≡ Format.edges_from f n }
 {
-    NODES_FROM + (f.words as u32) * (n as u32)
+    NODES_FROM + u32::from(f.words) * u32::from(n)
 }
 
 // How long a machine sheet with n nodes and e edges is.
 pub fn machine_length(f: NodeForm, n: u16, e: u16) -> usize
     ensures { result ≡ Format.form_length f n e }
 {
-    (edges_from(f, n) as usize) + EDGE * (e as usize)
+    edges_from(f, n) as usize + EDGE * usize::from(e)
 }
 
 // Where the states of a rule sheet with k automata begin.
 pub fn states_from(k: u16) -> u32
     ensures { result ≡ Format.states_from k }
 {
-    AUTOMATA_FROM + AUTOMATON * (k as u32)
+    AUTOMATA_FROM + AUTOMATON * u32::from(k)
 }
 
 // Where its transitions begin, with m states.
 pub fn transitions_from(k: u16, m: u16) -> u32
     ensures { result ≡ Format.transitions_from k m }
 {
-    states_from(k) + STATE * (m as u32)
+    states_from(k) + STATE * u32::from(m)
 }
 
 // Where its lines begin, with e transitions.
 pub fn lines_from(k: u16, m: u16, e: u16) -> u32
     ensures { result ≡ Format.lines_from k m e }
 {
-    transitions_from(k, m) + TRANSITION * (e as u32)
+    transitions_from(k, m) + TRANSITION * u32::from(e)
 }
 
 // How long it is, with l lines.
 pub fn rules_length(k: u16, m: u16, e: u16, l: u16) -> u32
     ensures { result ≡ Format.rules_length Format.line_words k m e l }
 {
-    lines_from(k, m, e) + LINE * (l as u32)
+    lines_from(k, m, e) + LINE * u32::from(l)
 }
 
 // The longest sheets, in words, and both together.
@@ -177,7 +177,7 @@ pub const LINES_A_NODE: usize = 7;
 pub fn rule_space(a: u16, n: u16) -> usize
     ensures { result ≡ Format.rule_space a n }
 {
-    NEXT_HEAD + (LINE_WORDS as usize) * ((a as usize) + LINES_A_NODE * (n as usize))
+    NEXT_HEAD + (LINE_WORDS as usize) * (usize::from(a) + LINES_A_NODE * usize::from(n))
 }
 
 // The space for the longest.

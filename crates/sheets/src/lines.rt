@@ -1,23 +1,17 @@
 // A line of a rule sheet taken apart, and questions 15 and 16.
-ghost use Rattle.std.specs.Prelude.{◌≡◌, ◌≤◌, T};
-ghost use Rattle.sheets.specs.Questions.{first_no};
+ghost use Rattle.std.specs.Prelude.{◌≡◌, ◌-◌, ◌≤◌, Some};
 ghost use Rattle.sheets.specs.Format.{operation_place, variables_most};
 ghost use Rattle.sheets.specs.Operations.{one_signal, lines_above};
+ghost use Rattle.sheets.specs.OperationNumbers.{number_of, Reads};
+ghost use Rattle.sheets.specs.Words.{within};
+ghost use Rattle.sheets.specs.Questions.{first_no};
+ghost use Rattle.sheets.specs.Refusals.{rule_refusal_of};
 ghost use Rattle.sheets.specs.Rules as Rules;
 ghost use Rattle.sheets.specs.inner.Lines as Lines;
 
+use crate::operation::{NoOperation, Operation};
+use crate::refusal::RuleQuestion;
 use crate::{format, rules, words};
-
-// The operations.
-pub const SIGNAL: u16 = 0;
-
-pub const NEGATION: u16 = 1;
-
-pub const EITHER: u16 = 2;
-
-pub const SOME_PATH: u16 = 3;
-
-pub const SOME_PATH_NOT: u16 = 4;
 
 // The places of the operands after the first.
 pub const SECOND_OPERAND: u16 = format::OPERAND + 1;
@@ -29,17 +23,14 @@ pub const FOURTH_OPERAND: u16 = format::OPERAND + 3;
 pub const FIFTH_OPERAND: u16 = format::OPERAND + 4;
 
 // An automaton with the lines of the variables that it may have; what stands past those that it has is 0.
-#[derive(Clone, Copy)]
+#[derive(Clone, Copy, Debug, PartialEq, Eq)]
 pub struct PathLine {
     pub automaton: u16,
-    pub first: u16,
-    pub second: u16,
-    pub third: u16,
-    pub fourth: u16,
+    pub lines: [u16; format::VARIABLES],
 }
 
 // A line by its operation: a signal, "not" and "or" of lines above it, "on some path A" and "on some path not A".
-#[derive(Clone, Copy)]
+#[derive(Clone, Copy, Debug, PartialEq, Eq)]
 pub enum Line {
     Signal(u16),
     Negation(u16),
@@ -48,222 +39,202 @@ pub enum Line {
     SomePathNot(PathLine),
 }
 
+// The record of a line: the sheet that it stands in, where the sheet's line records begin, which is found once for all the record's words,
+// and the line's number.
 #[derive(Clone, Copy)]
-pub enum Decoded {
-    Formed(Line),
-    Malformed,
+struct LineRecord<'a> {
+    sheet: &'a [u16],
+    from: u32,
+    number: u16,
+    ghost begins: { from ≡ Rules.lines_from sheet.now },
 }
 
-// The operation of line j.
+impl<'a> LineRecord<'a> {
+    fn new(sheet: &'a [u16], number: u16) -> LineRecord<'a>
+        ensures sheet { result.sheet.now ≡ sheet.now }
+        ensures number { result.number ≡ number }
+    {
+        let from = rules::lines_from(sheet);
+        LineRecord {
+            sheet,
+            from,
+            number,
+        }
+    }
+
+    fn word(&self, k: u16) -> u16
+        ensures { result ≡ Rules.line_word Rules.lent self.now.sheet.now self.now.number k }
+    {
+        words::record_word(self.sheet, self.from, format::LINE_WORDS, self.number, k)
+    }
+
+    // The words from word c on are zero, and c is at most the record's length.
+    fn unused(&self, c: u16) -> bool
+        ensures { result ≡ Rules.unused Rules.lent self.now.sheet.now self.now.number c }
+    {
+        if c > format::LINE_WORDS {
+            return false;
+        }
+        (c..format::LINE_WORDS).all(|k| self.word(k) == 0)
+    }
+
+    // Words c + 1 to c + n refer to lines above this one.
+    fn refers_above(&self, c: u16, n: u16) -> bool
+        requires { (c ≤ 1) × (n ≤ variables_most) }
+        ensures { result ≡ Rules.refers_above Rules.lent self.now.sheet.now self.now.number c n }
+    {
+        (c + 1..=c + n).all(|k| self.is_above(self.word(k)))
+    }
+
+    // Line k stands above this one.
+    fn is_above(&self, k: u16) -> bool
+        ensures { result ≡ within 1 (self.now.number - 1) k }
+    {
+        (0 < k) & (k < self.number)
+    }
+
+    // Question 15 of a signal's words.
+    fn signal_fits(&self) -> bool
+        ensures { result ≡ Rules.operands_fit Rules.lent self.now.sheet.now self.now.number one_signal }
+    {
+        words::within(1, format::SIGNALS_MOST, self.word(format::OPERAND))
+            & self.unused(SECOND_OPERAND)
+    }
+
+    // Question 15 of the words of an operation on n lines above.
+    fn lines_fit(&self, n: u16) -> bool
+        requires { n ≤ variables_most }
+        ensures { result ≡ Rules.operands_fit Rules.lent self.now.sheet.now self.now.number (lines_above n) }
+    {
+        self.refers_above(format::OPERATION, n) & self.unused(format::OPERAND + n)
+    }
+
+    // Question 15 of a path line's words.
+    fn path_fits(&self) -> bool
+        ensures { result ≡ Rules.path_fits Rules.lent self.now.sheet.now self.now.number }
+    {
+        let x = self.word(format::OPERAND);
+        let v = rules::variables(self.sheet, x);
+        if v > format::VARIABLES_MOST {
+            return false;
+        }
+        words::within(1, rules::automata(self.sheet), x)
+            & self.refers_above(format::OPERAND, v)
+            & self.unused(SECOND_OPERAND + v)
+    }
+
+    // The line's operation, or the number in its place that no operation has.
+    fn operation(&self) -> Result<Operation, NoOperation>
+        ensures { Reads (Rules.line_word Rules.lent self.now.sheet.now self.now.number operation_place) result }
+    {
+        Operation::try_from(self.word(format::OPERATION))
+    }
+
+    // Question 15 of the words of this operation.
+    fn operands_fit(&self, operation: Operation) -> bool
+        ensures { result ≡ Rules.line_fits Rules.lent self.now.sheet.now self.now.number (number_of operation) }
+    {
+        match operation {
+            Operation::Signal => self.signal_fits(),
+            Operation::Negation => self.lines_fit(1),
+            Operation::Either => self.lines_fit(2),
+            Operation::SomePath | Operation::SomePathNot => self.path_fits(),
+        }
+    }
+
+    // The automaton and the lines that the record's words name.
+    fn path_line(&self) -> PathLine
+        ensures { result ≡ Lines.named self.now.sheet.now self.now.number }
+    {
+        let automaton = self.word(format::OPERAND);
+        let first = self.word(SECOND_OPERAND);
+        let second = self.word(THIRD_OPERAND);
+        let third = self.word(FOURTH_OPERAND);
+        let fourth = self.word(FIFTH_OPERAND);
+        PathLine {
+            automaton,
+            lines: [first, second, third, fourth],
+        }
+    }
+
+    // The line that this operation makes of the words, whatever question 15 says of them.
+    fn line(&self, operation: Operation) -> Line
+        ensures { Some result ≡ Lines.handed (Rules.line_of Rules.lent self.now.sheet.now self.now.number (number_of operation)) }
+    {
+        match operation {
+            Operation::Signal => Line::Signal(self.word(format::OPERAND)),
+            Operation::Negation => Line::Negation(self.word(format::OPERAND)),
+            Operation::Either => {
+                let first = self.word(format::OPERAND);
+                let second = self.word(SECOND_OPERAND);
+                Line::Either(first, second)
+            }
+            Operation::SomePath => Line::SomePath(self.path_line()),
+            Operation::SomePathNot => Line::SomePathNot(self.path_line()),
+        }
+    }
+}
+
+// The number of the operation of line j.
 pub fn operation(r: &[u16], j: u16) -> u16
     ensures { result ≡ Rules.line_word Rules.lent r.now j operation_place }
 {
-    rules::line_word(r, rules::lines_from(r), j, format::OPERATION)
+    LineRecord::new(r, j).word(format::OPERATION)
 }
 
-// The words of line j from word c on are zero, and c is at most the record's length.
-fn unused(r: &[u16], from: u32, j: u16, c: u16) -> bool
-    requires { from ≡ Rules.lines_from r.now }
-    ensures { result ≡ Rules.unused Rules.lent r.now j c }
+// The operation of line j, or the number in its place that no operation has.
+pub fn read_operation(r: &[u16], j: u16) -> Result<Operation, NoOperation>
+    ensures { Reads (Rules.line_word Rules.lent r.now j operation_place) result }
 {
-    if c > format::LINE_WORDS {
-        return false;
-    }
-    let n = format::LINE_WORDS - c;
-    let mut i: u16 = 0;
-    while i < n {
-        i += 1;
-        if rules::line_word(r, from, j, c + i - 1) != 0 {
-            return false;
-        }
-    }
-    true
-}
-
-// Words c + 1 to c + n of line j refer to lines above it.
-fn refers_above(r: &[u16], from: u32, j: u16, c: u16, n: u16) -> bool
-    requires { (from ≡ Rules.lines_from r.now) × (c ≤ 1) × (n ≤ variables_most) }
-    ensures { result ≡ Rules.refers_above Rules.lent r.now j c n }
-{
-    let mut i: u16 = 0;
-    while i < n {
-        i += 1;
-        let k = rules::line_word(r, from, j, c + i);
-        if !((0 < k) & (k < j)) {
-            return false;
-        }
-    }
-    true
-}
-
-// Question 15 of a signal's words.
-fn signal_fits(r: &[u16], from: u32, j: u16) -> bool
-    requires { from ≡ Rules.lines_from r.now }
-    ensures { result ≡ Rules.operands_fit Rules.lent r.now j one_signal }
-{
-    words::within(
-        1,
-        format::SIGNALS_MOST,
-        rules::line_word(r, from, j, format::OPERAND),
-    ) & unused(r, from, j, SECOND_OPERAND)
-}
-
-// Question 15 of the words of an operation on n lines above.
-fn lines_fit(r: &[u16], from: u32, j: u16, n: u16) -> bool
-    requires { (from ≡ Rules.lines_from r.now) × (n ≤ variables_most) }
-    ensures { result ≡ Rules.operands_fit Rules.lent r.now j (lines_above n) }
-{
-    refers_above(r, from, j, format::OPERATION, n) & unused(r, from, j, format::OPERAND + n)
-}
-
-// Question 15 of a path line's words.
-fn path_fits(r: &[u16], from: u32, j: u16) -> bool
-    requires { from ≡ Rules.lines_from r.now }
-    ensures { result ≡ Rules.path_fits Rules.lent r.now j }
-{
-    let x = rules::line_word(r, from, j, format::OPERAND);
-    let v = rules::variables(r, x);
-    if v > format::VARIABLES_MOST {
-        return false;
-    }
-    words::within(1, rules::automata(r), x)
-        & refers_above(r, from, j, format::OPERAND, v)
-        & unused(r, from, j, SECOND_OPERAND + v)
+    LineRecord::new(r, j).operation()
 }
 
 // The automaton and the lines that the words of line j name.
-fn path_line_from(r: &[u16], from: u32, j: u16) -> PathLine
-    requires { from ≡ Rules.lines_from r.now }
-    ensures { result ≡ Lines.named r.now j }
-{
-    let automaton = rules::line_word(r, from, j, format::OPERAND);
-    let first = rules::line_word(r, from, j, SECOND_OPERAND);
-    let second = rules::line_word(r, from, j, THIRD_OPERAND);
-    let third = rules::line_word(r, from, j, FOURTH_OPERAND);
-    let fourth = rules::line_word(r, from, j, FIFTH_OPERAND);
-    PathLine {
-        automaton,
-        first,
-        second,
-        third,
-        fourth,
-    }
-}
-
-// The same for who reads one line alone.
 pub fn path_line(r: &[u16], j: u16) -> PathLine
     ensures { result ≡ Lines.named r.now j }
 {
-    path_line_from(r, rules::lines_from(r), j)
+    LineRecord::new(r, j).path_line()
 }
 
-// The lines of a path line's variables, in their order.
-pub fn arguments(p: PathLine) -> [u16; format::VARIABLES]
-    ensures { result ≡ Lines.arguments p }
-{
-    [p.first, p.second, p.third, p.fourth]
-}
-
-// Line j taken apart; malformed where question 15 says no to it.
-pub fn decode(r: &[u16], j: u16) -> Decoded
+// Line j taken apart; none where question 15 says no to it.
+pub fn decode(r: &[u16], j: u16) -> Option<Line>
     ensures { result ≡ Lines.decoded r.now j }
 {
-    let from = rules::lines_from(r);
-    let op = rules::line_word(r, from, j, format::OPERATION);
-    match op {
-        SIGNAL => {
-            if signal_fits(r, from, j) {
-                return Decoded::Formed(Line::Signal(rules::line_word(r, from, j, format::OPERAND)));
-            }
-        }
-        NEGATION => {
-            if lines_fit(r, from, j, 1) {
-                return Decoded::Formed(Line::Negation(rules::line_word(
-                    r,
-                    from,
-                    j,
-                    format::OPERAND,
-                )));
-            }
-        }
-        EITHER => {
-            if lines_fit(r, from, j, 2) {
-                let first = rules::line_word(r, from, j, format::OPERAND);
-                let second = rules::line_word(r, from, j, SECOND_OPERAND);
-                return Decoded::Formed(Line::Either(first, second));
-            }
-        }
-        SOME_PATH => {
-            if path_fits(r, from, j) {
-                return Decoded::Formed(Line::SomePath(path_line_from(r, from, j)));
-            }
-        }
-        SOME_PATH_NOT => {
-            if path_fits(r, from, j) {
-                return Decoded::Formed(Line::SomePathNot(path_line_from(r, from, j)));
-            }
-        }
-        _ => {}
+    let record = LineRecord::new(r, j);
+    let operation = record.operation().ok()?;
+    if record.operands_fit(operation) {
+        Some(record.line(operation))
+    } else {
+        None
     }
-    Decoded::Malformed
 }
 
-// Question 15: a malformed line leaves the check with its number; 0 where every line is formed.
-pub fn lines_refusal(r: &[u16]) -> u16
-    ensures { result ≡ (first_no (Rules.line_questions Rules.lent r.now)).number }
+// Question 15: a malformed line leaves the check there.
+pub fn check_lines(r: &[u16]) -> Result<(), RuleQuestion>
+    ensures { rule_refusal_of result ≡ first_no (Rules.line_questions Rules.lent r.now) }
 {
-    let l = rules::lines(r);
-    let mut j: u16 = 0;
-    while j < l {
-        j += 1;
-        let line = decode(r, j);
-        let Decoded::Formed(_) = line else {
-            return 15;
+    for j in 1..=rules::lines(r) {
+        let Some(_) = decode(r, j) else {
+            return Err(RuleQuestion::Lines);
         };
     }
-    0
+    Ok(())
 }
 
-// A signal's number is at most a, and another line has none.
-fn signal_most(line: Line, a: u16) -> bool
-    ensures { result ≡ Lines.most_of a line }
-{
-    match line {
-        Line::Signal(i) => i <= a,
-        Line::Negation(_) => true,
-        Line::Either(_, _) => true,
-        Line::SomePath(_) => true,
-        Line::SomePathNot(_) => true,
-    }
-}
-
-// Question 16 of line j, which question 15 accepts. Only a signal is taken apart.
+// Question 16 of line j: a signal's number is at most a, and another line has none.
 fn line_over(r: &[u16], j: u16, a: u16) -> bool
-    requires { T (Rules.line_fits Rules.lent r.now j (Rules.line_word Rules.lent r.now j operation_place)) }
     ensures { result ≡ Rules.signal_most a (Rules.line Rules.lent r.now j) }
 {
-    if operation(r, j) != SIGNAL {
+    let record = LineRecord::new(r, j);
+    if record.word(format::OPERATION) != Operation::Signal.number() {
         return true;
     }
-    let decoded = decode(r, j);
-    let Decoded::Formed(line) = decoded else {
-        return false;
-    };
-    signal_most(line, a)
+    record.word(format::OPERAND) <= a
 }
 
-// Question 16, of a sheet that question 15 accepts: the signal numbers are at most a.
+// Question 16: the signal numbers are at most a.
 pub fn over_signals(r: &[u16], a: u16) -> bool
-    requires { T (Rules.q15 Rules.lent r.now) }
     ensures { result ≡ Rules.over_signals Rules.lent a r.now }
 {
-    let l = rules::lines(r);
-    let mut j: u16 = 0;
-    while j < l {
-        j += 1;
-        if !line_over(r, j, a) {
-            return false;
-        }
-    }
-    true
+    (1..=rules::lines(r)).all(|j| line_over(r, j, a))
 }

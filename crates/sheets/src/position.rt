@@ -6,6 +6,7 @@ ghost use Rattle.sheets.specs.Rules as Rules;
 ghost use Rattle.sheets.specs.Positioned.{state_count, state_of, positioned};
 ghost use Rattle.sheets.specs.inner.Tabled.{Tabled};
 
+use crate::states::States;
 use crate::{automata, condition, format, rules};
 
 // How many masks lead from position to position.
@@ -24,31 +25,27 @@ pub struct ByPosition {
 
 // Writes the masks out of position p towards the first n positions.
 fn put_masks(out: &mut [u16; MASKS], p: u16, n: u16, masks: [u16; format::CHAINED])
-    requires { (p < chained_most) × (n ≤ chained_most) × (length out.old ≡ chained_most * chained_most) }
+    requires from { p < chained_most }
+    requires towards { n ≤ chained_most }
+    requires size { length out.old ≡ chained_most * chained_most }
     ensures size { length out.new ≡ chained_most * chained_most }
     ensures here { (k : ℕ) → k < n → get_or out.new (chained_most * p + k) 0 ≡ get_or masks k 0 }
     ensures before { (i : ℕ) → i < chained_most * p → get_or out.new i 0 ≡ get_or out.old i 0 }
 {
-    let mut k: u16 = 0;
-    while k < n {
+    for k in 0..n {
         let mask = masks[k as usize];
         out[(format::CHAINED_MOST * p + k) as usize] = mask;
-        k += 1;
     }
 }
 
-// The masks between the first n of the states.
-fn masks_between(r: &[u16], states: [u16; format::CHAINED], n: u16) -> [u16; MASKS]
-    requires { n ≤ chained_most }
-    ensures { (p q w : ℕ) → p < n → q < n → Words.bit (get_or result (chained_most * p + q) 0) w ≡ Words.any_of (Rules.transitions_of r.now (get_or states p 0)) (λ y. Words.bit (Rules.mask r.now y) w && eqb (Rules.transition_target r.now y) (get_or states q 0)) }
+// The masks between the states.
+fn masks_between(r: &[u16], states: States) -> [u16; MASKS]
+    ensures { (p q w : ℕ) → p < states.count → q < states.count → Words.bit (get_or result (chained_most * p + q) 0) w ≡ Words.any_of (Rules.transitions_of r.now (get_or states.numbers p 0)) (λ y. Words.bit (Rules.mask r.now y) w && eqb (Rules.transition_target r.now y) (get_or states.numbers q 0)) }
 {
     let mut out = [0u16; MASKS];
-    let mut p: u16 = 0;
-    while p < n {
-        let leaving = automata::leaving(r, states, n, states[p as usize]);
-        let masks = leaving.masks;
-        put_masks(&mut out, p, n, masks);
-        p += 1;
+    for p in 0..states.count {
+        let out_of = automata::leaving(r, states, states.numbers[p as usize]);
+        put_masks(&mut out, p, states.count, out_of.masks);
     }
     out
 }
@@ -58,16 +55,13 @@ pub fn by_position(r: &[u16], x: u16) -> ByPosition
     requires { state_count r.now x ≤ chained_most }
     ensures { Tabled (positioned r.now x) (state_count r.now x) (state_of r.now x) result }
 {
-    let variables = rules::variables(r, x);
-    let all = automata::states_of(r, x);
-    let count = all.count;
-    let numbers = all.numbers;
-    let accepting = condition::accepting_row(r, numbers, count);
-    let masks = masks_between(r, numbers, count);
+    let states = automata::few_states(r, x);
+    let masks = masks_between(r, states);
+    let numbers = states.numbers;
     ByPosition {
-        variables,
-        count,
-        accepting,
+        variables: rules::variables(r, x),
+        count: states.count,
+        accepting: condition::accepting_row(r, states).bits,
         masks,
         numbers,
     }
@@ -77,6 +71,5 @@ pub fn by_position(r: &[u16], x: u16) -> ByPosition
 pub fn state_count(r: &[u16], x: u16) -> u16
     ensures { result ≡ state_count r.now x }
 {
-    let all = automata::states_of(r, x);
-    all.count
+    automata::states_of(r, x).count
 }

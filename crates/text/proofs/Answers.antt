@@ -1,4 +1,5 @@
 -- What the answer to a text says of its reading and of the lent words, for whoever calls `words_of_text`.
+use Rattle.std.specs.Prelude.{Ok, Err}
 use mathlib.Core.Path.{◌≡◌, refl, ap}
 use Prim.Native.Nat.{ℕ, ◌≤◌}
 use native.Mathlib.Omega.{arith}
@@ -6,9 +7,7 @@ use mathlib.Core.List.{List}
 use lib.ListN.{length, take, drop, length-append, length-drop}
 use lib.Seq.{take-append_seam}
 use Rattle.text.specs.Texts.{Read, words, fault, answer_of, left_of}
-use Rattle.text.specs.declared.read.Place.{Place}
-use Rattle.text.specs.declared.read.Kind.{Kind}
-use Rattle.text.specs.declared.read.Reading.TheVariants.{Words, Fault}
+use Rattle.text.specs.declared.read.Fault.{Fault}
 
 -- an answer of so many words: they are the text's, and stand at the head of the lent ones
 pub record Got (read : Read) (count : ℕ) (left : List ℕ) : Type 0 where
@@ -18,7 +17,7 @@ pub record Got (read : Read) (count : ℕ) (left : List ℕ) : Type 0 where
   pub fits : count ≤ length left
   pub head : take count left ≡ ws
 
-pub got-words : (read : Read) (count : ℕ) (lent left : List ℕ) → Words count ≡ answer_of read → left ≡ left_of read lent
+pub got-words : (read : Read) (count : ℕ) (lent left : List ℕ) → Ok count ≡ answer_of read → left ≡ left_of read lent
     → length left ≡ length lent → Got read count left
 unfolding answer_of left_of
 got-words (words ws) count lent left e is size =
@@ -32,7 +31,7 @@ got-words (words ws) count lent left e is size =
     }
 got-words (fault kind at) count lent left e is size = absurd (let z : ◌≡◌ {A = ℕ} 0 1 = cc in omega arith)
 
-pub got_fault : (read : Read) (kind : Kind) (at : Place) → Fault kind at ≡ answer_of read → read ≡ fault kind at
+pub got_fault : (read : Read) (found : Fault) → Err found ≡ answer_of read → read ≡ fault found.kind found.at
 unfolding answer_of
-got_fault (words ws) kind at e = absurd (let z : ◌≡◌ {A = ℕ} 0 1 = cc in omega arith)
-got_fault (fault k there) kind at e = cc
+got_fault (words ws) found e = absurd (let z : ◌≡◌ {A = ℕ} 0 1 = cc in omega arith)
+got_fault (fault kind at) found e = cc

@@ -1,5 +1,6 @@
 -- The lent words while a text without fault is passed: its whole words, the word that the reader holds, and behind them the words that
 -- were lent.
+use Rattle.std.specs.Prelude.{Ok, Err}
 use mathlib.Core.Path.{◌≡◌, refl, sym, ◌∙◌}
 use Prim.Native.Nat.{ℕ, suc, ◌+◌, ◌-◌, ◌≤◌, ◌<◌}
 use native.Mathlib.Numerals.{add-one}
@@ -10,8 +11,7 @@ use lib.Seq.{sets, drop-cons, set-append_seam, append_snoc}
 use Rattle.text.specs.Texts.{Read, words, fault, reading_of, reading, answer_of, left_of}
 use Rattle.text.specs.inner.Readers.{from, held, ended, with_words, start_of, Steps}
 use Rattle.text.specs.declared.read.Place.{Place}
-use Rattle.text.specs.declared.read.Kind.{Kind}
-use Rattle.text.specs.declared.read.Reading.TheVariants.{Words, Fault}
+use Rattle.text.specs.declared.read.Fault.{Fault}
 use Rattle.text.specs.declared.reader.State.{State}
 use Rattle.text.specs.declared.reader.State.TheVariants.{Gap, Number, Stopped}
 use Rattle.text.specs.declared.reader.Reader.{Reader}
@@ -39,7 +39,7 @@ pub held-most : (state : State) → length (held state) ≤ 1
 unfolding held
 held-most Gap = omega arith
 held-most (Number first n) = omega arith
-held-most (Stopped kind there) = omega arith
+held-most (Stopped found) = omega arith
 
 -- the lent words after i bytes
 pub record Filled (lent text : List ℕ) (i : ℕ) (r : Reader) (list : List ℕ) : Type 0 where
@@ -62,7 +62,7 @@ refilled state (Number first n) ws lent list room room' counts moved e =
     let size : length list ≡ length lent = rw e (over-length (ws ++ held state) lent (simp length-append (omega arith))) in
     let place : length list - room' - 1 ≡ length ws = omega arith in
     rw (place, append-nil, e) (stored ws (held state) lent n short (omega arith))
-refilled state (Stopped kind there) ws lent list room room' counts moved e = rw append-nil e
+refilled state (Stopped found) ws lent list room room' counts moved e = rw append-nil e
 
 pub filled_more : (lent text list : List ℕ) (i : ℕ) (r r' : Reader) → i < length text → Filled lent text i r list
     → Steps r (get_or text i 0) r' → Filled lent text (i + 1) r' (sets list (length list - r'.room - 1) (held r'.state))
@@ -82,7 +82,7 @@ all_words : (state : State) (ws vs : List ℕ) (left : ℕ) (at : Place) → wor
 unfolding from reading held
 all_words Gap ws vs left at e = let same = e ∙ with-words ws [] in cc
 all_words (Number first n) ws vs left at e = let same = e ∙ with-words ws (n ∷ []) in cc
-all_words (Stopped kind there) ws vs left at e = let same = e ∙ with-fault ws kind there in absurd (let z : ◌≡◌ {A = ℕ} 0 1 = cc in omega arith)
+all_words (Stopped found) ws vs left at e = let same = e ∙ with-fault ws found.kind found.at in absurd (let z : ◌≡◌ {A = ℕ} 0 1 = cc in omega arith)
 
 pub filled-all : (lent text list : List ℕ) (i : ℕ) (r : Reader) → i ≡ length text → Filled lent text i r list
     → (vs : List ℕ) → reading_of (length lent) text ≡ words vs → list ≡ over vs lent
@@ -91,16 +91,16 @@ filled-all lent text list i r end f vs e =
     rw all f.is
 
 -- what a call leaves of the lent words, by its answer
-pub left-filled : (read : Read) (count : ℕ) (lent list : List ℕ) → Words count ≡ answer_of read
+pub left-filled : (read : Read) (count : ℕ) (lent list : List ℕ) → Ok count ≡ answer_of read
     → ((vs : List ℕ) → read ≡ words vs → list ≡ over vs lent) → list ≡ left_of read lent
 unfolding answer_of left_of
 left-filled (words ws) count lent list e filled = filled ws refl
 left-filled (fault kind at) count lent list e filled = absurd (let z : ◌≡◌ {A = ℕ} 0 1 = cc in omega arith)
 
-pub left_alone : (read : Read) (kind : Kind) (at : Place) (lent : List ℕ) → Fault kind at ≡ answer_of read → lent ≡ left_of read lent
+pub left_alone : (read : Read) (found : Fault) (lent : List ℕ) → Err found ≡ answer_of read → lent ≡ left_of read lent
 unfolding answer_of left_of
-left_alone (words ws) kind at lent e = absurd (let z : ◌≡◌ {A = ℕ} 0 1 = cc in omega arith)
-left_alone (fault k there) kind at lent e = refl
+left_alone (words ws) found lent e = absurd (let z : ◌≡◌ {A = ℕ} 0 1 = cc in omega arith)
+left_alone (fault k there) found lent e = refl
 
 -- the room for the word that a reader holds
 pub held_fits : (lent text list : List ℕ) (i : ℕ) (r r' : Reader) → Filled lent text i r list → Steps r (get_or text i 0) r'

@@ -1,61 +1,61 @@
--- A line with more bytes: more after more, what a line that holds a text then holds, and the text as a part of its array.
+-- A line's array with bytes more behind those that it holds, as far as there is a place for them.
 use mathlib.Core.Path.{◌≡◌, sym, ap, ◌∙◌}
-use Prim.Native.Nat.{ℕ, suc, ◌+◌, ◌-◌, ◌≤◌, ◌<◌}
+use Prim.Native.Nat.{ℕ, ◌+◌, ◌-◌, min}
 use native.Mathlib.Omega.{arith}
-use mathlib.Core.List.{List, [], ◌∷◌, ◌++◌, append_assoc, append-nil}
-use lib.ListN.{length, replicate, set, take, length-append, length-replicate}
-use lib.Seq.{set-append_seam, length-take-le, take-append_seam}
-use borrow.Author.Tests.{lt-ltb, le-ltb}
-use Rattle.text.specs.declared.line.Line.{Line}
-use Rattle.text.specs.Lines.{line_room, Holds, with_byte, with_bytes, Adds}
+use native.Mathlib.Decide.{dec_le}
+use mathlib.Core.Logic.{by_cases}
+use mathlib.Core.List.{List, ◌++◌}
+use lib.ListN.{length, replicate, take, drop, length-append, length-replicate, take-append-drop}
+use lib.Seq.{take-add, take_at, drop_at, take_all, drop-drop, length-take-le}
+use borrow.Rule.Slice.PartMut.{put_mid}
+use Rattle.std.proofs.lemmas.Slice.{take-put_mid, drop-put_mid}
+use Rattle.std.proofs.lemmas.List.{drop-replicate}
+use Rattle.text.specs.Lines.{line_room}
+use Rattle.text.specs.HeldLines.{IsHeld}
+use Rattle.text.specs.declared.line.Line.TheInside.{Inside}
 
--- a line with room takes a byte, and a full one stays as it is
-pub byte-taken : (line : Line) (byte : ℕ) → line.len < line_room
-    → Adds line (byte ∷ []) (record { bytes = set line.bytes line.len byte; len = line.len + 1 })
-unfolding with_bytes with_byte
-byte-taken line byte room = rw (lt-ltb line.len line_room room)
+-- as many bytes as there is a place for are all of them or fill the line
+taken : (more : List ℕ) (count room : ℕ) → count ≡ min (length more) room → take count more ≡ take room more
+taken more count room e =
+    by_cases (dec_le (length more) room)
+    (λ few. take_all count more (omega arith) ∙ sym (take_all room more few))
+    (λ many. let same : count ≡ room = omega arith in ap (λ n. take n more) same)
 
-pub byte-refused : (line : Line) (byte : ℕ) → line_room ≤ line.len → Adds line (byte ∷ []) line
-unfolding with_bytes with_byte
-byte-refused line byte full = rw (le-ltb line.len line_room full)
+module _ (line : Inside) (h : IsHeld line) (more part : List ℕ) (count k : ℕ)
+    (counted : count ≡ min (length more) (line_room - line.len)) (gap : k ≡ count) (is : part ≡ take count more) where
+  abbrev longer : List ℕ
+  longer = put_mid line.len k line.bytes part
 
-pub adds_then : (a b c : Line) (xs ys : List ℕ) → Adds a xs b → Adds b ys c → Adds a (xs ++ ys) c
-unfolding with_bytes
-adds_then a b c [] ys f g = g ∙ ap (λ (l : Line). with_bytes l ys) f
-adds_then a b c (x ∷ xs) ys f g = adds_then (with_byte a x) b c xs ys f g
+  size : length line.bytes ≡ line_room
+  size = ap length h.padded ∙ length-append (take line.len line.bytes) (replicate (line_room - line.len) 0)
+      ∙ omega (arith, h.size, h.fits, length-replicate {A = ℕ} (line_room - line.len) 0)
 
--- a byte stored past the text makes the text one longer
-stored : (text : List ℕ) (byte left : ℕ) → set (text ++ replicate (suc left) 0) (length text) byte ≡ (text ++ (byte ∷ [])) ++ replicate left 0
-stored text byte left = set-append_seam text 0 (replicate left 0) byte ∙ simp append_assoc
+  part_size : length part ≡ count
+  part_size = ap length is ∙ length-take-le count more (omega arith)
 
-holds_more : (line : Line) (text : List ℕ) (byte : ℕ) → Holds line text → length text + 1 ≤ line_room → Holds (with_byte line byte) (text ++ (byte ∷ []))
-unfolding with_byte
-holds_more line text byte h room =
-    let left : line_room - length text ≡ suc (line_room - (length text + 1)) = omega arith in
-    let roomy : line.len < line_room = omega (arith, h.len) in
-    rw (lt-ltb line.len line_room roomy)
-    (record {
-      len = simp length-append (omega (arith, h.len));
-      fits = simp length-append (omega arith);
-      bytes = rw (h.bytes, h.len, left, length-append) (stored text byte (line_room - (length text + 1)));
-    })
+  head : take (line.len + count) longer ≡ take line.len line.bytes ++ part
+  head = take-put_mid line.len k line.bytes part (line.len + count) (omega (arith, part_size)) (omega (arith, size, h.fits))
 
--- where there is a place for all of it, the second line holds the first one's text and what is added
-pub holds-added : (before after : Line) (text more : List ℕ) → Holds before text → Adds before more after → length text + length more ≤ line_room
-    → Holds after (text ++ more)
-unfolding with_bytes
-holds-added before after text [] h is room = rw (is, append-nil) h
-holds-added before after text (byte ∷ more) h is room =
-    rw (← append_assoc text (byte ∷ []) more)
-    (holds-added (with_byte before byte) after (text ++ (byte ∷ [])) more (holds_more before text byte h (omega arith)) is (simp length-append (omega arith)))
+  rest : drop (line.len + count) longer ≡ replicate (line_room - (line.len + count)) 0
+  rest =
+      let left : line_room - line.len - count ≡ line_room - (line.len + count) = omega arith in
+      drop-put_mid line.len k line.bytes part (line.len + count) (omega arith) (omega (arith, size, h.fits)) (omega (arith, part_size))
+      ∙ sym (drop-drop count line.len line.bytes)
+      ∙ ap (drop count) (ap (drop line.len) h.padded ∙ drop_at (take line.len line.bytes) (replicate (line_room - line.len) 0) line.len h.size)
+      ∙ drop-replicate count (line_room - line.len) 0 ∙ ap (λ n. replicate n 0) left
 
--- the bytes at the head of a line's array, as many as it has, are its text
-pub held-text : (line : Line) (text : List ℕ) → Holds line text → take line.len line.bytes ≡ text
-held-text line text h = rw (h.len, h.bytes) (take-append_seam text (replicate (line_room - length text) 0))
+  pub held-longer : IsHeld (record { bytes = longer; len = line.len + count })
+  held-longer = record {
+    fits = omega (arith, h.fits);
+    size = ap length head ∙ length-append (take line.len line.bytes) part ∙ omega (arith, h.size, part_size);
+    padded = sym (take-append-drop (line.len + count) longer) ∙ ap (λ xs. take (line.len + count) longer ++ xs) rest;
+  }
 
--- the text of a line is a part of its array
-pub line-part : (line : Line) (text : List ℕ) → Holds line text → (line.len ≤ length line.bytes) × (line.len ≡ length (take line.len line.bytes))
-line-part line text h =
-    let size : length line.bytes ≡ line_room = rw (h.bytes, length-append, length-replicate) (omega arith) in
-    let within : line.len ≤ length line.bytes = omega (arith, h.len, h.fits) in
-    (within, sym (length-take-le line.len line.bytes within))
+  pub bytes-longer : take (line.len + count) longer ≡ take line_room (take line.len line.bytes ++ more)
+  bytes-longer =
+      let text = take line.len line.bytes in
+      let all : line.len + (line_room - line.len) ≡ line_room = omega (arith, h.fits) in
+      head ∙ ap (λ xs. text ++ xs) (is ∙ taken more count (line_room - line.len) counted)
+      ∙ sym (ap (λ n. take n (text ++ more)) (sym all) ∙ take-add line.len (line_room - line.len) (text ++ more)
+      ∙ ap (λ xs. xs ++ take (line_room - line.len) (drop line.len (text ++ more))) (take_at text more line.len h.size)
+      ∙ ap (λ xs. text ++ take (line_room - line.len) xs) (drop_at text more line.len h.size))

@@ -2,7 +2,6 @@
 pub mod Moving
 pub mod Passing
 pub mod Filling
-pub mod Decimals
 pub mod HeldLines
 pub mod Writing
 pub mod RoundTrip

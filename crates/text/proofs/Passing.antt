@@ -1,4 +1,5 @@
 -- A text passed byte by byte: the reading of the whole text from the words that are whole and the reader's state.
+use Rattle.std.specs.Prelude.{Ok, Err}
 use mathlib.Core.Path.{◌≡◌, refl, sym, ap, ◌∙◌}
 use Prim.Native.Nat.{ℕ, ◌+◌, ◌-◌, ◌≤◌, ◌<◌}
 use native.Mathlib.Numerals.{add-one}
@@ -9,11 +10,10 @@ use lib.ListN.{length, get_or, drop, length-append}
 use lib.Seq.{drop-cons, drop-length}
 use lib.Dec.{eqb}
 use Rattle.text.specs.Texts.{Read, words, fault, with_word, next, commented, uncommented, reading_of, reading, answer_of}
-use Rattle.text.specs.inner.Readers.{from, held, ended, with_words, start_of, Steps, told_of}
+use Rattle.text.specs.inner.Readers.{from, held, ended, with_words, start_of, Steps}
 use Rattle.text.specs.declared.read.Place.{Place}
 use Rattle.text.specs.declared.read.Kind.{Kind}
-use Rattle.text.specs.declared.read.Reading.TheVariants.{Words}
-use Rattle.text.specs.declared.reader.State.{State}
+use Rattle.text.specs.declared.read.Fault.{Fault}
 use Rattle.text.specs.declared.reader.State.TheVariants.{Gap, Number, Stopped}
 use Rattle.text.specs.declared.reader.Reader.{Reader}
 
@@ -73,17 +73,19 @@ passed-more room text i r r' ws h p s =
     }
 
 -- at the end of the text
-told-at-end : (state : State) (ws : List ℕ) (room left : ℕ) (at : Place) → length ws + length (held state) + left ≡ room
-    → told_of state (room - left) ≡ answer_of (with_words ws (from state [] left at))
-unfolding told_of answer_of from reading held
-told-at-end Gap ws room left at counts = rw with-words (ap Words (simp length-append (omega arith)))
-told-at-end (Number first n) ws room left at counts = rw with-words (ap Words (simp length-append (omega arith)))
-told-at-end (Stopped kind there) ws room left at counts = rw with-fault
-
 module _ (room : ℕ) (text : List ℕ) (i : ℕ) (r : Reader) (ws : List ℕ) (end : i ≡ length text) (p : Passed room text i r ws) where
   pub whole-at-end : reading_of room text ≡ with_words ws (from r.state [] r.room r.at)
   unfolding uncommented
   whole-at-end = rw (end, drop-length) at p.whole
 
-  pub passed-all : told_of r.state (room - r.room) ≡ answer_of (reading_of room text)
-  passed-all = rw whole-at-end (told-at-end r.state ws room r.room r.at p.counts)
+  pub counted-at-gap : r.state ≡ Gap → Ok (room - r.room) ≡ answer_of (reading_of room text)
+  unfolding answer_of from reading held
+  counted-at-gap e = rw (whole-at-end, e, with-words) (ap Ok (simp length-append (omega (arith, rw e at p.counts))))
+
+  pub counted-at-number : (first : Place) (n : ℕ) → r.state ≡ Number first n → Ok (room - r.room) ≡ answer_of (reading_of room text)
+  unfolding answer_of from reading held
+  counted-at-number first n e = rw (whole-at-end, e, with-words) (ap Ok (simp length-append (omega (arith, rw e at p.counts))))
+
+  pub faulty-at-end : (found : Fault) → r.state ≡ Stopped found → Err found ≡ answer_of (reading_of room text)
+  unfolding answer_of from
+  faulty-at-end found e = rw (whole-at-end, e, with-fault)

@@ -1,20 +1,18 @@
 -- The text written for a list of words is read back as that list.
 use mathlib.Core.Path.{◌≡◌, refl, ap, ◌∙◌}
-use Prim.Native.Nat.{ℕ, zero, suc, ◌+◌, ◌-◌, ◌*◌, ◌/◌, ◌%◌, ◌≤◌, ◌<◌}
-use native.Mathlib.Decide.{dec_le}
+use Prim.Native.Nat.{ℕ, zero, suc, ◌+◌, ◌-◌, ◌*◌, ◌%◌, ◌^◌, ◌≤◌, ◌<◌}
 use native.Mathlib.Omega.{arith}
-use mathlib.Core.Logic.{by_cases}
 use mathlib.Core.List.{List, [], ◌∷◌, ◌++◌, append_assoc}
 use mathlib.Core.Bool.{Bool, true, false, cond, ◌||◌}
-use lib.ListN.{length, get_or, length-append}
+use lib.ListN.{length, get_or}
 use lib.Dec.{eqb}
 use borrow.Author.Tests.{le-leb, ne_eqb}
 use Rattle.text.specs.Texts.{Read, words, with_word, number, gap, sort_of, next, uncommented, reading, reading_of}
-use Rattle.text.specs.Decimals.{decimal}
+use Rattle.std.specs.Fmt.{decimal}
+use Rattle.std.proofs.lemmas.Fmt.{decimal_by_steps, decimal_nonempty}
 use Rattle.text.specs.Layout.{ender_of, text_from, text_of}
 use Rattle.text.specs.declared.read.Place.{Place}
 use Rattle.text.specs.declared.reader.Sort.TheVariants.{Blank, Digit}
-use Rattle.text.proofs.Decimals.{decimal-small, decimal-large}
 
 -- ---- digits
 
@@ -43,26 +41,15 @@ value_grows [] n = omega arith
 value_grows (b ∷ bs) n = omega (arith, value_grows bs (10 * n + (b - 48)))
 
 -- a number's decimal digits are digits and make the number
-abbrev Spelled : ℕ → Type 0
-Spelled n = Digits (decimal n) × (value 0 (decimal n) ≡ n)
+abbrev Spelled : ℕ → List ℕ → Type 0
+Spelled n bs = Digits bs × (value 0 bs ≡ n)
 
-spelled-small : (n : ℕ) → n < 10 → Spelled n
+spelled : (n : ℕ) → n < 2 ^ 64 → Spelled n (decimal n)
 unfolding value
-spelled-small n h = rw (decimal-small n h) ((omega arith, omega arith, tt), omega arith)
-
-spelled-large : (n : ℕ) → 10 ≤ n → Spelled (n / 10) → Spelled n
-spelled-large n h head =
-    let digits = digits-snoc (decimal (n / 10)) (n % 10) head.0 (omega arith) in
-    rw (decimal-large n h) (digits, value-snoc (decimal (n / 10)) 0 (n % 10) ∙ rw head.1 (omega arith))
-
-spelled-below : (f n : ℕ) → n < f → Spelled n
-spelled-below zero n h = absurd (omega arith)
-spelled-below (suc f) n h =
-    by_cases (dec_le 10 n) (λ l. spelled-large n l (spelled-below f (n / 10) (omega arith))) (λ s. spelled-small n (omega arith))
-
-decimal-some : (n : ℕ) → 0 < length (decimal n)
-decimal-some n =
-    by_cases (dec_le 10 n) (λ l. rw (decimal-large n l, length-append) (omega arith)) (λ s. rw (decimal-small n (omega arith)) (omega arith))
+spelled n small =
+    decimal_by_steps Spelled (λ n h. ((omega arith, omega arith, tt), omega arith))
+    (λ n bs h head. (digits-snoc bs (n % 10) head.0 (omega arith), value-snoc bs 0 (n % 10) ∙ rw head.1 (omega arith)))
+    n small
 
 -- ---- reading
 
@@ -122,8 +109,8 @@ word_read : (w i left room : ℕ) (rest ws : List ℕ) → w < 65536 → ((at : 
     → (at : Place) → reading (decimal w ++ (ender_of i left ∷ rest)) gap (suc room) at ≡ words (w ∷ ws)
 unfolding reading with_word
 word_read w i left room rest ws small on at =
-    let (digits, same) = spelled-below (suc w) w (omega arith) in
-    reads-number (decimal w) (ender_of i left ∷ rest) room (words (w ∷ ws)) (decimal-some w) digits (omega arith)
+    let (digits, same) = spelled w (omega arith) in
+    reads-number (decimal w) (ender_of i left ∷ rest) room (words (w ∷ ws)) (decimal_nonempty w (omega arith)) digits (omega arith)
     (λ from there. rw (ender-sort i left, on, same, reading)) at
 
 written_read : (ws : List ℕ) (k room : ℕ) → length ws ≤ room → ((i : ℕ) → get_or ws i 0 < 65536)
@@ -132,7 +119,7 @@ unfolding text_from uncommented reading
 written_read [] k room fits small at = refl
 written_read (w ∷ ws) k zero fits small at = absurd (omega arith)
 written_read (w ∷ ws) k (suc room) fits small at =
-    let (digits, same) = spelled-below (suc w) w (omega arith) in
+    let (digits, same) = spelled w (let few = small 0 in omega arith) in
     rw (append_assoc, plain-digits (decimal w) _ digits, plain-ender k (length ws))
     (word_read w k (length ws) room _ ws (small 0) (written_read ws (suc k) room (omega arith) (λ i. small (suc i))) at)
 

@@ -3,7 +3,7 @@ use mathlib.Core.Path.{◌≡◌, refl}
 use Prim.Native.Nat.{ℕ}
 use mathlib.Core.List.{[], ◌∷◌}
 use Rattle.text.specs.Texts.{words, fault, with_word, sort_of, uncommented, reading, reading_of}
-use Rattle.text.specs.Decimals.{digits, decimal}
+use Rattle.std.specs.Fmt.{digits}
 use Rattle.text.specs.Layout.{text_from, text_of}
 use Rattle.text.specs.declared.read.Place.{Place}
 use Rattle.text.specs.declared.read.Kind.TheVariants.{NotDecimal, Above, NoRoom}
@@ -30,7 +30,7 @@ pub record TextCases : Type 0 where
   pub two-lines : text_of (1 ∷ 1 ∷ 1 ∷ 1 ∷ 1 ∷ 1 ∷ 1 ∷ 1 ∷ 1 ∷ 1 ∷ 1 ∷ []) ≡ 49 ∷ 32 ∷ 49 ∷ 32 ∷ 49 ∷ 32 ∷ 49 ∷ 32 ∷ 49 ∷ 32 ∷ 49 ∷ 32 ∷ 49 ∷ 32 ∷ 49 ∷ 32 ∷ 49 ∷ 32 ∷ 49 ∷ 10 ∷ 49 ∷ 10 ∷ []
 
 pub text-cases : TextCases
-unfolding reading_of reading uncommented sort_of with_word text_of text_from decimal digits
+unfolding reading_of reading uncommented sort_of with_word text_of text_from digits
 text-cases = record {
   numbers = refl;
   touching = refl;

@@ -4,31 +4,31 @@ use Prim.Native.Nat.{ℕ, suc, ◌+◌, ◌-◌, ◌*◌, ◌≤◌, ◌<◌}
 use native.Mathlib.Numerals.{add-one}
 use native.Mathlib.Omega.{arith}
 use mathlib.Core.List.{List, [], ◌∷◌, ◌++◌, append-nil, append_assoc}
-use lib.ListN.{length, get_or, take, drop, length-append, length-drop, take-append-drop}
-use lib.Seq.{paste, drop-cons, drop-length, take-append_seam, take-paste, drop-paste, length-paste, take-length, drop-drop, length-take-le}
+use lib.ListN.{length, get_or, set, take, drop, length-append, length-drop, take-append-drop}
+use lib.Seq.{paste, paste-suc, get_or_at, drop-cons, drop-length, take-append_seam, take-paste, drop-paste, length-paste, take-length, drop-drop, length-take-le}
 use borrow.Author.Tests.{le-leb, lt-leb}
-use Rattle.text.specs.Decimals.{decimal}
-use Rattle.text.specs.Lines.{Holds, Adds}
+use borrow.Rule.Slice.PartMut.{put_mid}
+use Rattle.std.specs.Prelude.{Some, None}
+use Rattle.std.specs.Fmt.{decimal}
+use Rattle.std.proofs.lemmas.Fmt.{length-decimal-le}
+use Rattle.std.proofs.lemmas.Slice.{put_mid-paste}
 use Rattle.text.specs.Layout.{ender_of, word_text, word_bytes, text_from, text_of, written_of, text_left}
-use Rattle.text.specs.declared.line.Line.{Line}
-use Rattle.text.specs.declared.write.Written.TheVariants.{Text, NoRoom}
-use Rattle.text.proofs.Decimals.{decimal-length}
-use Rattle.text.proofs.HeldLines.{holds-added, adds_then}
 
 -- a word and a blank are at most six bytes
 pub word-most : (word blank : ℕ) → word < 65536 → length (word_text word blank) ≤ word_bytes
-word-most word blank small = let digits = decimal-length 4 word (omega arith) in simp length-append (omega arith)
+word-most word blank small = simp length-append (omega (arith, length-decimal-le 5 word (omega arith) (omega arith) (omega arith)))
 
-pub word_held : (none digits line : Line) (word blank : ℕ) → word < 65536 → Holds none [] → Adds none (decimal word) digits
-    → Adds digits (blank ∷ []) line → Holds line (word_text word blank)
-word_held none digits line word blank small start number last =
-    let most = decimal-length 4 word (omega arith) in
-    holds-added none line [] (word_text word blank) start (adds_then none digits line (decimal word) (blank ∷ []) number last) (simp length-append (omega arith))
-
--- a line that holds a text, put into a list
-pub line-pasted : (line : Line) (text list : List ℕ) (at : ℕ) → Holds line text
-    → paste list at line.bytes line.len ≡ paste list at text (length text)
-line-pasted line text list at h = rw (h.bytes, h.len, take-append_seam, take-length)
+-- a word's digits put into a list, and behind them the blank
+pub word-placed : (list digits : List ℕ) (at k end word blank : ℕ) → digits ≡ decimal word → k ≡ length digits → end ≡ at + length digits → end < length list
+    → set (put_mid at k list digits) end blank ≡ paste list at (word_text word blank) (length (word_text word blank))
+word-placed list digits at k end word blank is gap place room =
+    let text = digits ++ (blank ∷ []) in
+    let put : put_mid at k list digits ≡ paste list at text (length digits) =
+    put_mid-paste at k list digits digits (length digits) refl (sym gap) refl
+    ∙ ap (λ xs. take at list ++ xs ++ drop (at + length digits) list) (take-length digits ∙ sym (take-append_seam digits (blank ∷ []))) in
+    let last : get_or text (length digits) 0 ≡ blank = get_or_at digits blank [] 0 (length digits) refl in
+    let size : length text ≡ suc (length digits) = length-append digits (blank ∷ []) ∙ omega arith in
+    rw (put, place, ← is, size) (ap (set (paste list at text (length digits)) (at + length digits)) (sym last) ∙ paste-suc list at text (length digits) 0 (omega arith) (omega arith))
 
 -- i words are put into the lent list, up to a place
 pub record Wrote (ws lent : List ℕ) (i at : ℕ) (list : List ℕ) : Type 0 where
@@ -76,10 +76,10 @@ wrote-all ws lent list i at end w =
 -- the answer and what it leaves, with and without room
 pub text-written : (ws lent list : List ℕ) (at : ℕ) → word_bytes * length ws ≤ length lent
     → (at ≡ length (text_of ws)) × (list ≡ text_of ws ++ drop (length (text_of ws)) lent)
-    → (Text at ≡ written_of ws lent) × (list ≡ text_left ws lent)
+    → (Some at ≡ written_of ws lent) × (list ≡ text_left ws lent)
 unfolding written_of text_left
 text-written ws lent list at room all = let roomy = le-leb (word_bytes * length ws) (length lent) room in (rw (roomy, all.0), rw roomy all.1)
 
-pub text-refused : (ws lent : List ℕ) → length lent < word_bytes * length ws → (NoRoom ≡ written_of ws lent) × (lent ≡ text_left ws lent)
+pub text-refused : (ws lent : List ℕ) → length lent < word_bytes * length ws → (None ≡ written_of ws lent) × (lent ≡ text_left ws lent)
 unfolding written_of text_left
 text-refused ws lent short = let tight = lt-leb (word_bytes * length ws) (length lent) short in (rw tight, rw tight)

@@ -1,9 +1,6 @@
 -- The text that is written for a list of words: each in decimal and a blank after it, a newline after every tenth word and after the last,
 -- a space after the others.
-use Rattle.std.specs.Prelude.{ℕ, suc, ◌*◌, ◌%◌, List, [], ◌∷◌, ◌++◌, cond, ◌||◌, length, drop, leb, eqb}
-use Rattle.text.specs.Decimals.{decimal}
-use Rattle.text.specs.declared.write.Written.{Written}
-use Rattle.text.specs.declared.write.Written.TheVariants.{Text, NoRoom}
+use Rattle.std.specs.Prelude.{ℕ, suc, ◌*◌, ◌%◌, List, [], ◌∷◌, ◌++◌, Option, Some, None, cond, ◌||◌, decimal, length, drop, leb, eqb}
 
 -- the blank after a word, given its number, from 1, and how many words are left after it
 abbrev pub ender_of : ℕ → ℕ → ℕ
@@ -25,9 +22,9 @@ text_of ws = text_from 1 ws
 abbrev pub word_bytes : ℕ
 word_bytes = 6
 
--- the answer: the text's length where there are as many
-unfoldable pub written_of : List ℕ → List ℕ → Written
-written_of ws lent = cond (leb (word_bytes * length ws) (length lent)) (Text (length (text_of ws))) NoRoom
+-- the answer: the text's length where there are as many, else none
+unfoldable pub written_of : List ℕ → List ℕ → Option ℕ
+written_of ws lent = cond (leb (word_bytes * length ws) (length lent)) (Some (length (text_of ws))) None
 
 -- the lent bytes after it: the text at their head, or all as they were
 unfoldable pub text_left : List ℕ → List ℕ → List ℕ

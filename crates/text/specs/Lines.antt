@@ -1,27 +1,6 @@
--- A short line of bytes, as a value.
-use Rattle.std.specs.Prelude.{◌≡◌, ℕ, ◌+◌, ◌-◌, ◌≤◌, List, [], ◌∷◌, ◌++◌, cond, length, replicate, set, ltb}
-use Rattle.text.specs.declared.line.Line.{Line}
+-- A short line of bytes.
+use Rattle.std.specs.Prelude.{ℕ}
 
 -- the bytes that a line has room for
 abbrev pub line_room : ℕ
 line_room = 20
-
--- a line's array holds the text at its head and 0 past it
-pub record Holds (line : Line) (text : List ℕ) : Type 0 where
-  pub len : line.len ≡ length text
-  pub fits : length text ≤ line_room
-  pub bytes : line.bytes ≡ text ++ replicate (line_room - length text) 0
-
--- a line with one byte more; a full one stays as it is
-unfoldable pub with_byte : Line → ℕ → Line
-with_byte line byte = cond (ltb line.len line_room) (record { bytes = set line.bytes line.len byte; len = line.len + 1 }) line
-
--- a line with bytes more, one after the other: those that there is no place for are left out
-unfoldable pub with_bytes : Line → List ℕ → Line
-unfolding with_byte
-with_bytes line [] = line
-with_bytes line (byte ∷ more) = with_bytes (with_byte line byte) more
-
--- the second line is the first with `more` added
-abbrev pub Adds : Line → List ℕ → Line → Type 0
-Adds before more after = after ≡ with_bytes before more

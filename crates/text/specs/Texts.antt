@@ -1,12 +1,11 @@
 -- What a text of decimal words means. A text is bytes. Blanks are space, tab, carriage return and newline; `#` starts a comment up to the
 -- end of its line; everything else must be decimal numbers, 0 to 65,535, leading zeros allowed, separated by blanks or comments. The
 -- reading of a text is the list of its words, or the first fault: its line and column, both from 1, and what is wrong there.
-use Rattle.std.specs.Prelude.{ℕ, zero, suc, ◌+◌, ◌-◌, ◌*◌, List, [], ◌∷◌, ◌++◌, Bool, true, false, not, cond, ◌&&◌, ◌||◌, length, drop, leb, eqb}
+use Rattle.std.specs.Prelude.{ℕ, zero, suc, Result, Ok, Err, ◌+◌, ◌-◌, ◌*◌, List, [], ◌∷◌, ◌++◌, Bool, true, false, not, cond, ◌&&◌, ◌||◌, length, drop, leb, eqb}
 use Rattle.text.specs.declared.read.Place.{Place}
 use Rattle.text.specs.declared.read.Kind.{Kind}
 use Rattle.text.specs.declared.read.Kind.TheVariants.{NotDecimal, Above, NoRoom}
-use Rattle.text.specs.declared.read.Reading.{Reading}
-use Rattle.text.specs.declared.read.Reading.TheVariants.{Words, Fault}
+use Rattle.text.specs.declared.read.Fault.{Fault}
 use Rattle.text.specs.declared.reader.Sort.{Sort}
 use Rattle.text.specs.declared.reader.Sort.TheVariants.{Blank, Digit, Other}
 
@@ -73,9 +72,9 @@ unfoldable pub reading_of : ℕ → List ℕ → Read
 reading_of room text = reading (uncommented false text) gap room (record { line = 1; column = 1 })
 
 -- the answer to a text: how many words it has, or its first fault
-unfoldable pub answer_of : Read → Reading
-answer_of (words ws) = Words (length ws)
-answer_of (fault kind at) = Fault kind at
+unfoldable pub answer_of : Read → Result ℕ Fault
+answer_of (words ws) = Ok (length ws)
+answer_of (fault kind at) = Err (record { kind = kind; at = at })
 
 -- the lent words after it: the text's words at their head, or all as they were
 unfoldable pub left_of : Read → List ℕ → List ℕ

@@ -4,6 +4,5 @@
 pub mod line; // line.rt: a short line of bytes as a value
 pub mod read; // read.rt: the words of a text, or its first fault
 mod reader; // reader.rt: a text read byte by byte
-mod reason; // reason.rt: what is wrong with the input, for each question
-pub mod say; // say.rt: a text, a line, a number or a refusal, to a writer
+pub mod say; // say.rt: a text, a line or a number, to a writer
 pub mod write; // write.rt: the text of words

@@ -1,12 +1,12 @@
 // A text read byte by byte: what a byte is, and the reader's state before it.
-ghost use Rattle.std.specs.Prelude.{◌≡◌, cond, ◌^◌, ◌≤◌};
+ghost use Rattle.std.specs.Prelude.{◌≡◌, ◌^◌, ◌≤◌};
 ghost use Rattle.text.specs.Texts as Texts;
-ghost use Rattle.text.specs.inner.Readers.{Moves, start_of, Steps};
+ghost use Rattle.text.specs.inner.Readers.{Moves, start_of, stopped_at, Steps};
 
-use crate::read::{Kind, Place};
+use crate::read::{Fault, Kind, Place};
 
 // What a byte is between comments.
-#[derive(Clone, Copy)]
+#[derive(Clone, Copy, Debug, PartialEq, Eq)]
 pub enum Sort {
     Blank,
     Digit { value: u8 },
@@ -14,22 +14,16 @@ pub enum Sort {
 }
 
 // What stands before a byte: a gap, a number with the place of its first digit, or a fault.
-#[derive(Clone, Copy)]
+#[derive(Clone, Copy, Debug, PartialEq, Eq)]
 pub enum State {
     Gap,
     Number { from: Place, value: u16 },
-    Stopped { kind: Kind, at: Place },
+    Stopped(Fault),
 }
 
-// The state after a byte, and the words that there is room for from there on.
-#[derive(Clone, Copy)]
-pub struct Moved {
-    pub state: State,
-    pub room: usize,
-}
-
-// A reader before a byte: whether the byte before it belongs to a comment, the byte's place, and what stands before it.
-#[derive(Clone, Copy)]
+// A reader before a byte: whether the byte before it belongs to a comment, the byte's place, the words that there is room for from there
+// on, and what stands before it.
+#[derive(Clone, Copy, Debug, PartialEq, Eq)]
 pub struct Reader {
     pub comment: bool,
     pub at: Place,
@@ -37,158 +31,44 @@ pub struct Reader {
     pub state: State,
 }
 
-fn blank(byte: u8) -> bool
+impl From<u8> for Sort {
+    ghost from_gives = { λ byte sort. sort ≡ Texts.sort_of byte };
+
+    fn from(byte: u8) -> Sort {
+        if is_blank(byte) {
+            Sort::Blank
+        } else if byte.is_ascii_digit() {
+            Sort::Digit { value: byte - b'0' }
+        } else {
+            Sort::Other
+        }
+    }
+}
+
+fn is_blank(byte: u8) -> bool
     ensures { result ≡ Texts.blank byte }
 {
     (byte == b' ') | (byte == b'\t') | (byte == b'\r') | (byte == b'\n')
 }
 
-fn sort_of(byte: u8) -> Sort
-    ensures { result ≡ Texts.sort_of byte }
-{
-    if blank(byte) {
-        return Sort::Blank;
-    }
-    if byte < b'0' {
-        return Sort::Other;
-    }
-    if b'9' < byte {
-        return Sort::Other;
-    }
-    Sort::Digit { value: byte - b'0' }
-}
-
-// Whether a byte belongs to a comment.
-fn commented(inside: bool, byte: u8) -> bool
-    ensures { result ≡ Texts.commented inside byte }
-{
-    (byte != b'\n') & (inside | (byte == b'#'))
-}
-
-// What is read of a byte: of one of a comment, a space.
-fn seen(comment: bool, byte: u8) -> u8
-    ensures { result ≡ cond comment 32 byte }
-{
-    if comment { b' ' } else { byte }
-}
-
-// The first place, or else the second.
-fn either_place(first: bool, one: Place, two: Place) -> Place
-    ensures { result ≡ cond first one two }
-{
-    if first { one } else { two }
-}
-
-fn next_place(at: Place, byte: u8) -> Place
-    requires { (at.line ≤ 2 ^ 63) × (at.column ≤ 2 ^ 63) }
-    ensures { result ≡ Texts.next at byte }
-{
-    let below = Place {
-        line: at.line + 1,
-        column: 1,
-    };
-    let beside = Place {
-        line: at.line,
-        column: at.column + 1,
-    };
-    either_place(byte == b'\n', below, beside)
-}
-
-// The state after a byte that follows a gap.
-fn in_gap(room: usize, at: Place, byte: u8) -> Moved
-    ensures { Moves State.Gap room at byte result }
-{
-    let sort = sort_of(byte);
-    match sort {
-        Sort::Blank => Moved {
-            state: State::Gap,
-            room: room,
-        },
-        Sort::Digit { value } => {
-            let full = room == 0;
-            if full {
-                Moved {
-                    state: State::Stopped {
-                        kind: Kind::NoRoom,
-                        at: at,
-                    },
-                    room: room,
-                }
-            } else {
-                Moved {
-                    state: State::Number {
-                        from: at,
-                        value: value as u16,
-                    },
-                    room: room - 1,
-                }
+impl Place {
+    // The place of the byte after a byte.
+    fn next(self, byte: u8) -> Place
+        requires line { self.line ≤ 2 ^ 63 }
+        requires column { self.column ≤ 2 ^ 63 }
+        ensures { result ≡ Texts.next self byte }
+    {
+        if byte == b'\n' {
+            Place {
+                line: self.line + 1,
+                column: 1,
+            }
+        } else {
+            Place {
+                line: self.line,
+                column: self.column + 1,
             }
         }
-        Sort::Other => Moved {
-            state: State::Stopped {
-                kind: Kind::NotDecimal,
-                at: at,
-            },
-            room: room,
-        },
-    }
-}
-
-// The state after a byte that follows a number's digits.
-fn in_number(from: Place, value: u16, room: usize, at: Place, byte: u8) -> Moved
-    ensures { Moves (State.Number from value) room at byte result }
-{
-    let sort = sort_of(byte);
-    match sort {
-        Sort::Blank => Moved {
-            state: State::Gap,
-            room: room,
-        },
-        Sort::Digit { value: digit } => {
-            let longer = 10 * (value as u32) + digit as u32;
-            let fits = longer <= 65535;
-            if fits {
-                Moved {
-                    state: State::Number {
-                        from: from,
-                        value: longer as u16,
-                    },
-                    room: room,
-                }
-            } else {
-                Moved {
-                    state: State::Stopped {
-                        kind: Kind::Above,
-                        at: from,
-                    },
-                    room: room,
-                }
-            }
-        }
-        Sort::Other => Moved {
-            state: State::Stopped {
-                kind: Kind::NotDecimal,
-                at: at,
-            },
-            room: room,
-        },
-    }
-}
-
-// The state after a byte.
-fn state_after(state: State, room: usize, at: Place, byte: u8) -> Moved
-    ensures { Moves state room at byte result }
-{
-    match state {
-        State::Gap => in_gap(room, at, byte),
-        State::Number { from, value } => in_number(from, value, room, at, byte),
-        State::Stopped { kind, at: from } => Moved {
-            state: State::Stopped {
-                kind: kind,
-                at: from,
-            },
-            room: room,
-        },
     }
 }
 
@@ -200,27 +80,101 @@ impl Reader {
         Reader {
             comment: false,
             at: Place { line: 1, column: 1 },
-            room: room,
+            room,
             state: State::Gap,
         }
     }
 
     // After one byte more; a byte of a comment counts as a space.
     pub fn step(self, byte: u8) -> Reader
-        requires { (self.at.line ≤ 2 ^ 63) × (self.at.column ≤ 2 ^ 63) }
+        requires line { self.at.line ≤ 2 ^ 63 }
+        requires column { self.at.column ≤ 2 ^ 63 }
         ensures { Steps self byte result }
     {
-        let comment = commented(self.comment, byte);
-        let seen = seen(comment, byte);
-        let at = self.at;
-        let state = self.state;
-        let after = state_after(state, self.room, at, seen);
-        let held = after.state;
+        let comment = (byte != b'\n') & (self.comment | (byte == b'#'));
+        let seen = if comment { b' ' } else { byte };
+        let after = self.moved(seen);
         Reader {
-            comment: comment,
-            at: next_place(at, seen),
+            comment,
+            at: self.at.next(seen),
             room: after.room,
-            state: held,
+            state: after.state,
+        }
+    }
+
+    // With the state after a byte, and the room that it leaves.
+    fn moved(self, byte: u8) -> Reader
+        ensures { Moves self byte result }
+    {
+        match self.state {
+            State::Gap => self.in_gap(byte),
+            State::Number { from, value } => self.in_number(from, value, byte),
+            State::Stopped(_) => self,
+        }
+    }
+
+    // After a byte that follows a gap.
+    fn in_gap(self, byte: u8) -> Reader
+        requires { self.state ≡ State.Gap }
+        ensures { Moves self byte result }
+    {
+        match Sort::from(byte) {
+            Sort::Blank => self,
+            Sort::Digit { value } => {
+                let full = self.room == 0;
+                if full {
+                    self.stopped(Kind::NoRoom, self.at)
+                } else {
+                    Reader {
+                        room: self.room - 1,
+                        state: State::Number {
+                            from: self.at,
+                            value: u16::from(value),
+                        },
+                        ..self
+                    }
+                }
+            }
+            Sort::Other => self.stopped(Kind::NotDecimal, self.at),
+        }
+    }
+
+    // After a byte that follows a number's digits.
+    fn in_number(self, from: Place, value: u16, byte: u8) -> Reader
+        requires { self.state ≡ State.Number from value }
+        ensures { Moves self byte result }
+    {
+        match Sort::from(byte) {
+            Sort::Blank => Reader {
+                state: State::Gap,
+                ..self
+            },
+            Sort::Digit { value: digit } => {
+                let longer = 10 * u32::from(value) + u32::from(digit);
+                let fits = longer <= 65535;
+                if fits {
+                    Reader {
+                        state: State::Number {
+                            from,
+                            value: longer as u16,
+                        },
+                        ..self
+                    }
+                } else {
+                    self.stopped(Kind::Above, from)
+                }
+            }
+            Sort::Other => self.stopped(Kind::NotDecimal, self.at),
+        }
+    }
+
+    // At a fault.
+    fn stopped(self, kind: Kind, at: Place) -> Reader
+        ensures { result ≡ stopped_at self kind at }
+    {
+        Reader {
+            state: State::Stopped(Fault { kind, at }),
+            ..self
         }
     }
 }

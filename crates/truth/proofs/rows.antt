@@ -3,3 +3,4 @@ pub mod RowLaws
 pub mod RowSets
 pub mod RowWalks
 pub mod RowEnds
+pub mod RowMembers

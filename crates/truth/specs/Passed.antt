@@ -6,6 +6,10 @@ pub use Rattle.sheets.specs.Structures.{Kripke, Automaton, Line, signal, negatio
 pub use Rattle.sheets.specs.Words.{within}
 pub use Rattle.sheets.specs.Machine.{nodes, signals, edges, signal_at, start_flag, target, edges_of, machine_refusal}
 pub use Rattle.sheets.specs.Rules.{lent, automata, states, transitions, variables, lines, line_word, rule_refusal}
+pub use Rattle.sheets.specs.Refusals.{number_of, refusal_of}
+pub use Rattle.sheets.specs.declared.refusal.Refusal.{Refusal as Refused}
+pub use Rattle.sheets.specs.CheckAnswers.{Answered}
+pub use Rattle.sheets.specs.OperationNumbers.{number_of as operation_number}
 unfoldable pub use Rattle.sheets.specs.Questions.{none, first_no}
 unfoldable pub use Rattle.sheets.specs.Words.{word, bit, each, any_of, chain}
 unfoldable pub use Rattle.sheets.specs.Records.{record_word}

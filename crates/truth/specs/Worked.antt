@@ -1,6 +1,6 @@
 -- The rule sheets of the marked cases (e) and (f) of document 01, word by word, and what is said of labelling them; the machines are
 -- those of sheets' `Worked`.
-use Rattle.std.specs.Prelude.{◌≡◌, ℕ, ◌*◌, ◌^◌, ◌≤◌, ◌<◌, List, [], ◌∷◌, Bool, length, T}
+use Rattle.std.specs.Prelude.{◌≡◌, ℕ, ◌*◌, ◌^◌, ◌≤◌, ◌<◌, List, [], ◌∷◌, Bool, length, T, Result, Ok}
 use Rattle.sheets.specs.Words.{word}
 use Rattle.sheets.specs.Machine.{signals, machine_refusal}
 use Rattle.sheets.specs.Rules.{lent, lines, over_signals, rule_refusal}
@@ -8,7 +8,7 @@ use Rattle.truth.specs.Sizes.{row_word_bits, row_words, members_most}
 use Rattle.truth.specs.Labelling.{row_bit}
 use Rattle.truth.specs.LabelAnswers.{LabelAnswer}
 use Rattle.truth.specs.declared.labelling.Labelled.{Labelled}
-use Rattle.truth.specs.declared.labelling.Labelled.TheVariants.{Done}
+use Rattle.sheets.specs.declared.refusal.Refusal.{Refusal}
 
 -- (e): Even, v = 1, under operation 3, over signal 1: line 1 is the signal, line 2 the path line
 abbrev pub EvenSheet : List ℕ
@@ -28,7 +28,7 @@ pub record Labels (M R : List ℕ) (holds : ℕ → ℕ → Bool) (kept : Bool) 
   pub machine : machine_refusal M ≡ 0
   pub rules : rule_refusal lent R ≡ 0
   pub over : T (over_signals lent (signals M) R)
-  pub answers : (before after : List ℕ) (answer : Labelled) → row_words * lines R ≤ length before → ((i : ℕ) → word after i < 2 ^ row_word_bits)
-      → LabelAnswer M R before after answer → answer ≡ Done kept count share
-  pub rows : (before after : List ℕ) (answer : Labelled) → row_words * lines R ≤ length before → LabelAnswer M R before after answer
+  pub answers : (before after : List ℕ) (answer : Result Labelled Refusal) → row_words * lines R ≤ length before → ((i : ℕ) → word after i < 2 ^ row_word_bits)
+      → LabelAnswer M R before after answer → answer ≡ Ok (record { kept = kept; count = count; percent = share })
+  pub rows : (before after : List ℕ) (answer : Result Labelled Refusal) → row_words * lines R ≤ length before → LabelAnswer M R before after answer
       → (j s : ℕ) → 1 ≤ j → j ≤ lines R → 1 ≤ s → s ≤ members_most → row_bit after j s ≡ holds j s

@@ -10,3 +10,4 @@ pub mod Trails
 pub mod OneLine
 pub mod Shows
 pub mod Made
+pub mod Tested

@@ -5,19 +5,14 @@ ghost use Rattle.truth.specs.Breaks.{FirstOutside};
 use crate::rows::Row;
 use sheets::machine;
 
-// The first start node that is not in the row, 0 where every start node is.
-pub fn first_break(m: &[u16], row: Row) -> u16
+// The first start node that is not in the row.
+pub fn first_break(m: &[u16], row: Row) -> Option<u16>
     ensures { FirstOutside m.now (row_has row) result }
 {
-    let n = machine::nodes(m);
-    let mut s: u16 = 0;
-    while s < n {
-        s += 1;
-        if machine::start_flag(m, s) == 1 {
-            if !row.has(s) {
-                return s;
-            }
+    for s in 1..=machine::nodes(m) {
+        if machine::start_flag(m, s) == 1 && !row.has(s) {
+            return Some(s);
         }
     }
-    0
+    None
 }

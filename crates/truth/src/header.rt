@@ -1,11 +1,13 @@
-// What the crate above asks of a machine sheet: the question that refuses it, its nodes, its signals; and what it takes of the format.
-ghost use Rattle.std.specs.Prelude.{◌≡◌};
-ghost use Rattle.sheets.specs.Format as Format;
-ghost use Rattle.sheets.specs.Machine as Machine;
+// What the crate above takes of the sheet reader, passed on: why a call is refused, the questions of a machine sheet, its nodes and
+// signals, the operations of a line, and the format of a written rule.
+pub use sheets::checks::check_machine;
+pub use sheets::format::rule_space;
+pub use sheets::machine::{check, nodes, signals};
+pub use sheets::operation::Operation;
+pub use sheets::refusal::{CallQuestion, Refusal, Side};
+use sheets::{format, lines, rules};
 
-use sheets::{format, lines, machine, rules};
-
-// Passed on: the most nodes, the words of a line record; the states and transitions of a written rule's automaton, and the words before its
+// The most nodes, the words of a line record; the states and transitions of a written rule's automaton, and the words before its
 // lines.
 pub const NODES: usize = format::NODES;
 
@@ -32,38 +34,3 @@ pub const THIRD_OPERAND: usize = lines::THIRD_OPERAND as usize;
 pub const FOURTH_OPERAND: usize = lines::FOURTH_OPERAND as usize;
 
 pub const FIFTH_OPERAND: usize = lines::FIFTH_OPERAND as usize;
-
-// The operations of a written rule's lines.
-pub const SIGNAL: u16 = lines::SIGNAL;
-
-pub const NEGATION: u16 = lines::NEGATION;
-
-pub const EITHER: u16 = lines::EITHER;
-
-pub const SOME_PATH: u16 = lines::SOME_PATH;
-
-// The number of the machine question that refuses the sheet, 0 if none does.
-pub fn machine_refusal(m: &[u16]) -> u16
-    ensures { result ≡ Machine.machine_refusal m.now }
-{
-    machine::machine_refusal(m)
-}
-
-pub fn nodes(m: &[u16]) -> u16
-    ensures { result ≡ Machine.nodes m.now }
-{
-    machine::nodes(m)
-}
-
-pub fn signals(m: &[u16]) -> u16
-    ensures { result ≡ Machine.signals m.now }
-{
-    machine::signals(m)
-}
-
-// The space for a rule written of machines with a signals, and n nodes together.
-pub fn rule_space(a: u16, n: u16) -> usize
-    ensures { result ≡ Format.rule_space a n }
-{
-    format::rule_space(a, n)
-}

@@ -1,6 +1,6 @@
 // Labelling: the rows of a whole rule sheet on a machine, whether the rule is kept, and the count and percent of its true nodes.
 ghost use Rattle.std.specs.Prelude.{◌≡◌, ◌↔◌, ◌*◌, ◌≤◌, length, T};
-ghost use Rattle.sheets.specs.Questions.{first_no};
+ghost use Rattle.sheets.specs.CheckAnswers.{Answered};
 ghost use Rattle.sheets.specs.Format.{nodes_most};
 ghost use Rattle.sheets.specs.Machine as Machine;
 ghost use Rattle.sheets.specs.Rules as Rules;
@@ -9,39 +9,31 @@ ghost use Rattle.truth.specs.inner.Rows.{row_has};
 ghost use Rattle.truth.specs.Labelling as Labelling;
 ghost use Rattle.truth.specs.LabelAnswers.{LabelAnswer};
 
-use crate::lines::row_of_line;
+use crate::lines::Sheets;
 use crate::rows::Row;
 use crate::sizes::ROW_WORDS;
 use crate::structure;
 use crate::tables::{line_row, set_line_row};
+use sheets::refusal::{CallQuestion, Refusal};
 use sheets::{checks, machine, rules};
 
-// The answer: refused by a question, with the number of the machine sheet for questions 1 to 6, or done.
-#[derive(Clone, Copy)]
-pub enum Labelled {
-    Refused {
-        question: u16,
-        sheet: u16,
-    },
-    Done {
-        kept: bool,
-        count: u32,
-        percent: u32,
-    },
+// What labelling finds: whether the rule is kept, and the count and percent of the nodes where its last line is true.
+#[derive(Clone, Copy, Debug, PartialEq, Eq)]
+pub struct Labelled {
+    pub kept: bool,
+    pub count: u32,
+    pub percent: u32,
 }
 
-// The number of the first question of labelling that says no, 0 where none does, for a space of so many words.
-fn label_refusal(m: &[u16], r: &[u16], space: usize) -> u16
-    ensures { result ≡ (first_no (Labelling.label_questions m.now r.now space)).number }
+// The questions of labelling, in order, for a space of so many words.
+fn check_labelling(m: &[u16], r: &[u16], space: usize) -> Result<(), Refusal>
+    ensures { Answered (Labelling.label_questions m.now r.now space) result }
 {
-    let sheets = checks::sheets_refusal(m, r);
-    if sheets != 0 {
-        return sheets;
-    }
+    checks::check_sheets(m, r)?;
     if space < ROW_WORDS * (rules::lines(r) as usize) {
-        return 17;
+        return Err(Refusal::Call(CallQuestion::Rows));
     }
-    0
+    Ok(())
 }
 
 // Writes the row of each line from the first to the given one.
@@ -52,10 +44,14 @@ pub fn label_lines(m: &[u16], r: &[u16], rows: &mut [u64], upto: u16)
     let next = structure::successors(m);
     let n = machine::nodes(m);
     let back = structure::predecessors(&next, n);
-    let mut j: u16 = 0;
-    while j < upto {
-        j += 1;
-        let row = row_of_line(m, r, &next, &back, rows, j);
+    let sheets = Sheets {
+        machine: m,
+        rules: r,
+        next: &next,
+        back: &back,
+    };
+    for j in 1..=upto {
+        let row = sheets.row_of_line(rows, j);
         set_line_row(rows, j as usize, row);
     }
 }
@@ -86,23 +82,17 @@ fn percent(c: u32, n: u16) -> u32
 }
 
 // Labels every line of the rule sheet r on the machine sheet m, two words of the space a line.
-pub fn label(m: &[u16], r: &[u16], rows: &mut [u64]) -> Labelled
+pub fn label(m: &[u16], r: &[u16], rows: &mut [u64]) -> Result<Labelled, Refusal>
     ensures { LabelAnswer m.now r.now rows.old rows.new result }
 {
-    let question = label_refusal(m, r, rows.len());
-    if question != 0 {
-        return Labelled::Refused {
-            question: question,
-            sheet: checks::sheet_of(question),
-        };
-    }
+    check_labelling(m, r, rows.len())?;
     let l = rules::lines(r);
     label_lines(m, r, rows, l);
     let last = line_row(rows, l as usize);
     let count = last.count();
-    Labelled::Done {
+    Ok(Labelled {
         kept: keeps(m, last),
         count: count,
         percent: percent(count, machine::nodes(m)),
-    }
+    })
 }

@@ -5,7 +5,6 @@ pub mod sizes; // sizes.rt: the sizes of rows and tables
 pub mod rows; // rows.rt: a set of nodes as a value
 pub mod structure; // structure.rt: the machine's structure in rows
 pub mod tables; // tables.rt: tables of rows
-mod positions; // positions.rt: tables with one row a position
 mod product; // product.rt: the automaton of a path line beside the machine
 mod trimming; // trimming.rt: the largest set of pairs each of which has a step into it
 mod growth; // growth.rt: the pairs from which steps lead into a set
@@ -13,6 +12,6 @@ mod lines; // lines.rt: the row of one line
 pub mod labelling; // labelling.rt: the rows of a rule sheet, and the answer
 pub mod breaks; // breaks.rt: the start node where a machine breaks a rule
 mod trail; // trail.rt: a trail through the pairs that shows a path
-pub mod header; // header.rt: what the crate above asks of a machine sheet
+pub mod header; // header.rt: what the crate above takes of the sheet reader
 pub mod path; // path.rt: the path call
 pub mod pairs; // pairs.rt: the path call over a list of pairs

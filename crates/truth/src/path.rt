@@ -1,6 +1,6 @@
 // The path call: a list of nodes and states that shows a path for a true path line at a node.
 ghost use Rattle.std.specs.Prelude.{◌≡◌, ◌&&◌, ℕ, ◌-◌, min, ◌<◌, ◌≤◌, List, ◌++◌, length, get_or, take, drop};
-ghost use Rattle.sheets.specs.Questions.{first_no};
+ghost use Rattle.sheets.specs.CheckAnswers.{Answered};
 ghost use Rattle.sheets.specs.Words.{within};
 ghost use Rattle.sheets.specs.Machine as Machine;
 ghost use Rattle.sheets.specs.Rules as Rules;
@@ -14,21 +14,21 @@ ghost use Rattle.truth.specs.inner.Made.{MadeFor};
 ghost use Rattle.truth.specs.inner.Shows.{ShowsLine};
 
 use crate::labelling::label_lines;
-use crate::lines::solve;
-use crate::positions::load;
+use crate::lines::Sheets;
 use crate::sizes::{LINES_WORDS, PAIRS, TABLE_WORDS};
 use crate::structure;
-use crate::trail::trace;
-use sheets::lines::{PathLine, SOME_PATH, SOME_PATH_NOT, arguments, operation, path_line};
+use crate::tables::load;
+use crate::trail::Trace;
+use sheets::lines::{PathLine, path_line, read_operation};
+use sheets::operation::Operation;
+use sheets::refusal::{CallQuestion, Refusal};
 use sheets::{checks, format, machine, position, rules};
 
-// The answer: refused by a question, with the number of the machine sheet for questions 1 to 6; no path; or a path of so many pairs,
-// the last of which goes to the pair at the back index.
-#[derive(Clone, Copy)]
-pub enum Shown {
-    Refused { question: u16, sheet: u16 },
-    NoPath,
-    Path { length: u16, back: u16 },
+// A path that is shown: so many pairs, the last of which goes to the pair at the back index.
+#[derive(Clone, Copy, Debug, PartialEq, Eq)]
+pub struct Shown {
+    pub length: u16,
+    pub back: u16,
 }
 
 // A list that was made, and the answer; a node fits a byte. The answer stands between the arrays: so each of them is moved by itself,
@@ -36,32 +36,30 @@ pub enum Shown {
 #[derive(Clone, Copy)]
 pub struct Made {
     pub nodes: [u8; PAIRS],
-    pub answer: Shown,
+    pub answer: Result<Option<Shown>, Refusal>,
     pub states: [u16; PAIRS],
 }
 
-// Line 0 means the last line.
+// Line 0 means the last line: the C interface has it so.
 fn asked(r: &[u16], line: u16) -> u16
     ensures { result ≡ Path.asked r.now line }
 {
     if line == 0 { rules::lines(r) } else { line }
 }
 
-// The number of the first question of a path call that says no, 0 where none does, for a list with room for so many pairs.
-fn path_refusal(m: &[u16], r: &[u16], line: u16, node: u16, room: usize) -> u16
-    ensures { result ≡ (first_no (Path.path_questions m.now r.now line node room)).number }
+// The questions of a path call, in order, for a list with room for so many pairs. The four arguments of the call are handed on from here as
+// they came: a struct of them would be made in one function and taken apart in the next.
+fn check_path(m: &[u16], r: &[u16], line: u16, node: u16, room: usize) -> Result<(), Refusal>
+    ensures { Answered (Path.path_questions m.now r.now line node room) result }
 {
-    let sheets = checks::sheets_refusal(m, r);
-    if sheets != 0 {
-        return sheets;
-    }
+    checks::check_sheets(m, r)?;
     if !q18(m, r, line, node) {
-        return 18;
+        return Err(Refusal::Call(CallQuestion::PathLine));
     }
     if !q19(m, r, line, room) {
-        return 19;
+        return Err(Refusal::Call(CallQuestion::PathSpace));
     }
-    0
+    Ok(())
 }
 
 fn q18(m: &[u16], r: &[u16], line: u16, node: u16) -> bool
@@ -74,7 +72,10 @@ fn q18(m: &[u16], r: &[u16], line: u16, node: u16) -> bool
     if !sheets::words::within(1, machine::nodes(m), node) {
         return false;
     }
-    sheets::words::within(SOME_PATH, SOME_PATH_NOT, operation(r, j))
+    match read_operation(r, j) {
+        Ok(operation) => operation.is_path(),
+        Err(_) => false,
+    }
 }
 
 fn q19(m: &[u16], r: &[u16], line: u16, room: usize) -> bool
@@ -92,11 +93,8 @@ fn named(states: [u16; format::CHAINED], positions: [u16; PAIRS], count: u16) ->
     ensures { (i : ℕ) → i < count → get_or result i 0 ≡ get_or states (get_or positions i 0) 0 }
 {
     let mut out = positions;
-    let mut i: u16 = 0;
-    while i < count {
-        let p = out[i as usize];
-        out[i as usize] = states[p as usize];
-        i += 1;
+    for place in out[..count as usize].iter_mut() {
+        *place = states[*place as usize];
     }
     out
 }
@@ -118,41 +116,46 @@ fn show(
     let a = position::by_position(r, p.automaton);
     let t = a.count;
     let numbers = a.numbers;
-    let solved = solve(m, next, back, rows, arguments(p), a, exchanged);
+    let sheets = Sheets {
+        machine: m,
+        rules: r,
+        next,
+        back,
+    };
+    let solved = sheets.solve(rows, p.lines, a, exchanged);
     let row = load(&solved.reached, 0);
     if !row.has(s) {
         return Made {
             nodes: [0u8; PAIRS],
-            answer: Shown::NoPath,
+            answer: Ok(None),
             states: [0u16; PAIRS],
         };
     }
     let n = machine::nodes(m);
-    let found = trace(
-        &solved.allow,
+    let trace = Trace {
+        solved: &solved,
         next,
-        t as usize,
-        n,
-        &solved.lasting,
-        &solved.reached,
-        &solved.times,
-        s,
-    );
+        count: t as usize,
+        nodes: n,
+        start: s,
+    };
+    let found = trace.trail();
     let positions = found.positions;
     let length = found.length;
     let states = named(numbers, positions, length);
     let nodes = found.nodes;
     Made {
         nodes: nodes,
-        answer: Shown::Path {
+        answer: Ok(Some(Shown {
             length: length,
             back: found.back,
-        },
+        })),
         states: states,
     }
 }
 
-// The same with the successors of the nodes alone: their predecessors are found here.
+// The same with the successors of the nodes alone: their predecessors are found here, in a frame of its own, so that the stack has one
+// table at a time.
 fn show_with(
     m: &[u16],
     r: &[u16],
@@ -182,14 +185,10 @@ fn show_line(m: &[u16], r: &[u16], rows: &[u64], p: PathLine, exchanged: bool, s
 fn make(m: &[u16], r: &[u16], line: u16, node: u16, room: usize) -> Made
     ensures { MadeFor m.now r.now line node room result.nodes result.states result.answer }
 {
-    let question = path_refusal(m, r, line, node, room);
-    if question != 0 {
+    if let Err(refusal) = check_path(m, r, line, node, room) {
         return Made {
             nodes: [0u8; PAIRS],
-            answer: Shown::Refused {
-                question: question,
-                sheet: checks::sheet_of(question),
-            },
+            answer: Err(refusal),
             states: [0u16; PAIRS],
         };
     }
@@ -197,69 +196,46 @@ fn make(m: &[u16], r: &[u16], line: u16, node: u16, room: usize) -> Made
     let mut rows = [0u64; LINES_WORDS];
     label_lines(m, r, &mut rows, j - 1);
     let p = path_line(r, j);
-    if operation(r, j) == SOME_PATH_NOT {
+    if read_operation(r, j) == Ok(Operation::SomePathNot) {
         return show_line(m, r, &rows, p, true, node);
     }
     show_line(m, r, &rows, p, false, node)
 }
 
-// A byte as a word.
-fn wide(x: u8) -> u16
-    ensures { result ≡ x }
+// Writes the nodes to the head of the list.
+fn write_nodes(list: &mut [u16], from: &[u8])
+    requires { length from.now ≤ length list.old }
+    ensures { list.new ≡ from.now ++ drop (length from.now) list.old }
 {
-    x as u16
-}
-
-// Writes the first `count` nodes to the list.
-fn write_nodes(list: &mut [u16], from: &[u8; PAIRS], count: u16)
-    requires { (count ≤ pairs_most) × (length from.now ≡ pairs_most) × (count ≤ length list.old) }
-    ensures { list.new ≡ take count from.now ++ drop count list.old }
-{
-    let mut i: u16 = 0;
-    while i < count {
-        list[i as usize] = wide(from[i as usize]);
-        i += 1;
+    for (i, node) in from.iter().enumerate() {
+        list[i] = u16::from(*node);
     }
 }
 
-// Writes the first `count` numbers to the list.
-fn write_first(list: &mut [u16], from: &[u16; PAIRS], count: u16)
-    requires { (count ≤ pairs_most) × (length from.now ≡ pairs_most) × (count ≤ length list.old) }
-    ensures { list.new ≡ take count from.now ++ drop count list.old }
+// Writes the numbers to the head of the list.
+fn write_states(list: &mut [u16], from: &[u16])
+    requires { length from.now ≤ length list.old }
+    ensures { list.new ≡ from.now ++ drop (length from.now) list.old }
 {
-    let mut i: u16 = 0;
-    while i < count {
-        list[i as usize] = from[i as usize];
-        i += 1;
-    }
+    list[..from.len()].copy_from_slice(from);
 }
 
 // How many pairs a made list has.
-pub fn length_of(answer: Shown) -> u16
+pub fn length_of(answer: Result<Option<Shown>, Refusal>) -> u16
     ensures { result ≡ length_of answer }
 {
     match answer {
-        Shown::Refused {
-            question: _,
-            sheet: _,
-        } => 0,
-        Shown::NoPath => 0,
-        Shown::Path { length, back: _ } => length,
+        Err(_) => 0,
+        Ok(None) => 0,
+        Ok(Some(shown)) => shown.length,
     }
-}
-
-// The lesser of two lengths.
-fn least(a: usize, b: usize) -> usize
-    ensures { result ≡ min a b }
-{
-    if a < b { a } else { b }
 }
 
 // What is made for a list with space for so many pairs: none is longer than PAIRS, so that more room changes no answer.
 pub fn make_within(m: &[u16], r: &[u16], line: u16, node: u16, space: usize) -> Made
     ensures { MadeFor m.now r.now line node (min space pairs_most) result.nodes result.states result.answer }
 {
-    make(m, r, line, node, least(space, PAIRS))
+    make(m, r, line, node, space.min(PAIRS))
 }
 
 // The path call for code that has no slice of structs: nodes and states of the pairs go to two lent lists. Line 0 means the last line.
@@ -270,13 +246,13 @@ pub fn path_lists(
     node: u16,
     nodes: &mut [u16],
     states: &mut [u16],
-) -> Shown
+) -> Result<Option<Shown>, Refusal>
     ensures { PathAnswer m.now r.now line node nodes.old states.old nodes.new states.new result }
 {
-    let made = make_within(m, r, line, node, least(nodes.len(), states.len()));
+    let made = make_within(m, r, line, node, nodes.len().min(states.len()));
     let answer = made.answer;
-    let count = length_of(answer);
-    write_nodes(nodes, &made.nodes, count);
-    write_first(states, &made.states, count);
+    let count = length_of(answer) as usize;
+    write_nodes(nodes, &made.nodes[..count]);
+    write_states(states, &made.states[..count]);
     answer
 }

@@ -2,11 +2,12 @@
 ghost use Rattle.std.specs.Prelude.{◌≡◌, false, not, ◌&&◌, ◌||◌, ℕ, eqb};
 ghost use Rattle.sheets.specs.Words.{within, each};
 ghost use Rattle.truth.specs.Sizes.{members_most};
-ghost use Rattle.truth.specs.inner.Rows.{row_has, tally, First, Last};
+ghost use Rattle.truth.specs.inner.Rows.{row_has, tally, Lowest, Highest, TakesLowest, TakesHighest};
+ghost use Rattle.std.specs.Iterator.{at_most};
 
 use crate::sizes::{HIGH_FIRST, LOW_LAST, MEMBERS, ROW_WORD_BITS};
 
-// A set of nodes, from 1 to MEMBERS.
+// A set of nodes, from 1 to MEMBERS. Its methods are named as those of std's sets; operators beside them would say no more.
 #[derive(Clone, Copy)]
 pub struct Row {
     pub low: u64,
@@ -14,7 +15,7 @@ pub struct Row {
 }
 
 impl Row {
-    // The set of no node.
+    // The set of no node: a constant of the row itself, and a maker without self, as document 01 has it.
     pub const EMPTY: Row = Row { low: 0, high: 0 };
 
     pub fn empty() -> Row
@@ -26,16 +27,11 @@ impl Row {
     pub fn has(self, s: u16) -> bool
         ensures { result ≡ row_has self s }
     {
-        if s == 0 {
-            return false;
+        match s {
+            1..=LOW_LAST => (self.low >> (s - 1)) & 1 == 1,
+            HIGH_FIRST..=MEMBERS => (self.high >> (s - HIGH_FIRST)) & 1 == 1,
+            _ => false,
         }
-        if s <= LOW_LAST {
-            return (self.low >> (s - 1)) & 1 == 1;
-        }
-        if s <= MEMBERS {
-            return (self.high >> (s - HIGH_FIRST)) & 1 == 1;
-        }
-        false
     }
 
     pub fn union(self, other: Row) -> Row
@@ -68,31 +64,23 @@ impl Row {
     pub fn with(self, s: u16) -> Row
         ensures { (i : ℕ) → row_has result i ≡ (row_has self i || (within 1 members_most s && eqb i s)) }
     {
-        if s == 0 {
-            return self;
-        }
-        if s <= LOW_LAST {
-            return Row {
+        match s {
+            1..=LOW_LAST => Row {
                 low: self.low | (1 << (s - 1)),
                 high: self.high,
-            };
-        }
-        if s <= MEMBERS {
-            return Row {
+            },
+            HIGH_FIRST..=MEMBERS => Row {
                 low: self.low,
                 high: self.high | (1 << (s - HIGH_FIRST)),
-            };
+            },
+            _ => self,
         }
-        self
     }
 
     pub fn is_empty(self) -> bool
         ensures { result ≡ each members_most (λ s. not (row_has self s)) }
     {
-        if self.low != 0 {
-            return false;
-        }
-        self.high == 0
+        self.low == 0 && self.high == 0
     }
 
     pub fn count(self) -> u32
@@ -115,35 +103,72 @@ impl Row {
         !self.intersection(other).is_empty()
     }
 
-    // The lowest node of the row, or 0 where it has none.
-    pub fn first(self) -> u16
-        ensures { First (row_has self) result }
-    {
-        if self.low != 0 {
-            return (u64::trailing_zeros(self.low) % ROW_WORD_BITS) as u16 + 1;
-        }
-        if self.high != 0 {
-            return (u64::trailing_zeros(self.high) % ROW_WORD_BITS) as u16 + HIGH_FIRST;
-        }
-        0
-    }
-
-    // The highest node of the row, or 0 where it has none.
-    pub fn last(self) -> u16
-        ensures { Last (row_has self) result }
-    {
-        if self.high != 0 {
-            return MEMBERS - (u64::leading_zeros(self.high) % ROW_WORD_BITS) as u16;
-        }
-        if self.low != 0 {
-            return LOW_LAST - (u64::leading_zeros(self.low) % ROW_WORD_BITS) as u16;
-        }
-        0
-    }
-
     pub fn without(self, s: u16) -> Row
         ensures { (i : ℕ) → row_has result i ≡ (row_has self i && not (eqb i s)) }
     {
         self.difference(Row::empty().with(s))
+    }
+
+    // The lowest node of the row.
+    pub fn lowest(self) -> Option<u16>
+        ensures { Lowest self result }
+    {
+        if self.low != 0 {
+            return Some((u64::trailing_zeros(self.low) % ROW_WORD_BITS) as u16 + 1);
+        }
+        if self.high != 0 {
+            return Some((u64::trailing_zeros(self.high) % ROW_WORD_BITS) as u16 + HIGH_FIRST);
+        }
+        None
+    }
+
+    // The highest node of the row.
+    pub fn highest(self) -> Option<u16>
+        ensures { Highest self result }
+    {
+        if self.high != 0 {
+            return Some(MEMBERS - (u64::leading_zeros(self.high) % ROW_WORD_BITS) as u16);
+        }
+        if self.low != 0 {
+            return Some(LOW_LAST - (u64::leading_zeros(self.low) % ROW_WORD_BITS) as u16);
+        }
+        None
+    }
+
+    // The nodes of the row, from the lowest on.
+    pub fn members(self) -> Members
+        ensures { result.left ≡ self }
+    {
+        Members { left: self }
+    }
+}
+
+// The nodes of a row that are still to come, from the lowest on, and from the highest on by `rev`.
+#[derive(Drop)]
+pub struct Members {
+    left: Row,
+}
+
+impl Iterator for Members {
+    type Item = u16;
+
+    ghost next_gives = { λ s r t. TakesLowest s.left r t.left };
+
+    ghost remaining = { λ s. at_most (tally members_most (row_has s.left)) };
+
+    fn next(&mut self) -> Option<u16> {
+        let first = self.left.lowest()?;
+        self.left = self.left.without(first);
+        Some(first)
+    }
+}
+
+impl DoubleEndedIterator for Members {
+    ghost next_back_gives = { λ s r t. TakesHighest s.left r t.left };
+
+    fn next_back(&mut self) -> Option<u16> {
+        let last = self.left.highest()?;
+        self.left = self.left.without(last);
+        Some(last)
     }
 }

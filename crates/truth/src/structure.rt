@@ -1,22 +1,26 @@
 // The machine's structure in rows, read from the lent words: the nodes with an edge into a row, the nodes of a signal, the start nodes.
-ghost use Rattle.std.specs.Prelude.{◌≡◌, ◌↔◌, ◌⊎◌, false, ◌&&◌, ℕ, ◌-◌, ◌*◌, ◌≤◌, length, T, eqb, leb};
+ghost use Rattle.std.specs.Prelude.{◌≡◌, ◌↔◌, ◌⊎◌, Bool, false, ◌&&◌, ℕ, ◌-◌, ◌*◌, ◌≤◌, length, T, eqb, leb};
 ghost use Rattle.sheets.specs.Words.{within};
 ghost use Rattle.sheets.specs.Machine as Machine;
-ghost use Rattle.sheets.specs.Records.{record_word};
-ghost use Rattle.sheets.specs.inner.Gathered.{records, Remaining, Until};
+ghost use Rattle.sheets.specs.Format.{plain, edges_from, edge_words};
 ghost use Rattle.truth.specs.Sizes.{members_most, row_words, table_rows, table_words};
 ghost use Rattle.truth.specs.inner.Rows.{row_has, rows_has, leads_into, marks_into};
 ghost use Rattle.truth.specs.inner.Targets.{links_end, TargetsTaken, Stopped, TailOf, chain_leads};
 ghost use Rattle.truth.specs.inner.Pairs.{Before};
 ghost use Rattle.truth.specs.inner.Links.{AddedBefore};
+ghost use Rattle.truth.specs.inner.Tested.{Tests};
 
 use crate::rows::Row;
 use crate::sizes::{NODE_PLACES, TABLE_ROWS, TABLE_WORDS};
 use crate::tables::{add, line_row, load, store};
-use sheets::words::Step;
-use sheets::{along, format, machine, walker};
+use sheets::along::Gathers;
+use sheets::walker::{Record, Walker};
+use sheets::{along, format, machine};
 
-// A tail that chains share: the nodes that the chain from record `at` on leads to. From record 0 on there is nothing.
+// A tail that chains share: the nodes that the chain from record `at` on leads to. Every chain ends at record 0, from which on there is
+// nothing, so a machine with no shared tail has the tail from there: an Option would add a case to each walk and take none away. A sheet
+// and its tail are held together by comparison alone, by its `Machine`; here three functions take both. `TailOf` has a choice in it, so it
+// can be no ghost field.
 #[derive(Clone, Copy)]
 pub struct Tail {
     pub row: Row,
@@ -36,7 +40,8 @@ struct Targets {
 }
 
 fn no_tail() -> Tail
-    ensures { (result.at ≡ 0) × ((t : ℕ) → row_has result.row t ≡ false) }
+    ensures at { result.at ≡ 0 }
+    ensures none { (t : ℕ) → row_has result.row t ≡ false }
 {
     let row = Row::empty();
     Tail { row, at: 0 }
@@ -44,7 +49,9 @@ fn no_tail() -> Tail
 
 // No target yet, and no link that is one.
 fn no_targets(stop: u64) -> Targets
-    ensures { (result.stop ≡ stop) × ((result.link ≡ links_end) × ((t : ℕ) → row_has result.row t ≡ false)) }
+    ensures stop { result.stop ≡ stop }
+    ensures link { result.link ≡ links_end }
+    ensures none { (t : ℕ) → row_has result.row t ≡ false }
 {
     let row = Row::empty();
     Targets {
@@ -54,57 +61,41 @@ fn no_targets(stop: u64) -> Targets
     }
 }
 
-// One record's target more.
-fn with_target(a: Targets, s: Step) -> Targets
-    ensures { TargetsTaken a s result }
-{
-    match s {
-        Step::Record {
-            number: _,
-            first,
-            second: _,
-            next,
-        } => {
-            let row = a.row;
-            let more = row.with(first);
-            Targets {
-                row: more,
-                stop: a.stop,
-                link: next as u64,
-            }
+impl Gathers for Targets {
+    ghost Takes = { TargetsTaken };
+
+    ghost IsDone = { Stopped };
+
+    // One record's target more.
+    fn take(self, found: Record) -> Targets {
+        Targets {
+            row: self.row.with(found.first),
+            stop: self.stop,
+            link: found.next as u64,
         }
-        Step::End => a,
+    }
+
+    // Whether the next record is the one at which the walk is left.
+    fn done(&self) -> bool {
+        self.link == self.stop
     }
 }
 
-// How many records may still be read: none where the next is the one at which the walk is left.
-fn targets_left(a: Targets, left: u16, s: Step) -> u16
-    ensures { Remaining Stopped a left s result }
+// A walker along the chain of edges from record x on, of which `left` may be read.
+fn edges_walker<'a>(m: &'a [u16], x: u16, left: u16) -> Walker<'a>
+    ensures words { result.words.now ≡ m.now }
+    ensures base { result.base ≡ edges_from plain (Machine.nodes m.now) }
+    ensures width { result.width ≡ edge_words }
+    ensures at { result.at ≡ x }
+    ensures left { result.left ≡ left }
 {
-    if a.link == a.stop {
-        return 0;
+    Walker {
+        words: m,
+        base: machine::edges_from(m),
+        width: format::EDGE_WORDS,
+        at: x,
+        left,
     }
-    along::left_after(left, s)
-}
-
-// The targets on a chain more, read by one walker, to the chain's end or to the record at which it is left.
-fn targets_along(
-    ws: &[u16],
-    base: u32,
-    width: u16,
-    first: u16,
-    mut left: u16,
-    mut a: Targets,
-) -> Targets
-    ensures { Until TargetsTaken Stopped (records (record_word ws.now base width) width left first) a result }
-{
-    let mut w = walker::new(ws, base, width, first);
-    while left > 0 {
-        let step = walker::next(&mut w);
-        a = with_target(a, step);
-        left = targets_left(a, left, step);
-    }
-    a
 }
 
 // The tail, if record x is one of e; a chain from elsewhere is read to its end.
@@ -128,8 +119,7 @@ fn chain_row(m: &[u16], x: u16, tail: Tail) -> Row
     let e = machine::edges(m);
     let known = tail_for(tail, x, e);
     let none = no_targets(known.at);
-    let from = machine::edges_from(m);
-    let found = targets_along(m, from, format::EDGE_WORDS, x, e, none);
+    let found = along::along(edges_walker(m, x, e), none);
     let row = found.row;
     if found.link == found.stop {
         let rest = known.row;
@@ -155,14 +145,11 @@ fn joint(m: &[u16]) -> u16 {
         return 0;
     }
     let share = e / n;
-    let from = machine::edges_from(m);
     let none = no_targets(0);
     let mut at: u64 = 0;
-    let mut s: u16 = 0;
-    while s < n {
-        s += 1;
+    for s in 1..=n {
         let first = machine::first_edge(m, s);
-        let found = targets_along(m, from, format::EDGE_WORDS, first, share, none);
+        let found = along::along(edges_walker(m, first, share), none);
         if found.link > at {
             at = found.link;
         }
@@ -191,83 +178,68 @@ pub fn leads_into(m: &[u16], s: u16, row: Row, tail: Tail) -> bool
     successor_row(m, s, tail).meets(row)
 }
 
+// The nodes of 1 to n that pass the test.
+fn nodes_where<F: Fn(u16) -> bool>(n: u16, test: F) -> Row
+    requires { F.IsAlwaysCallable test }
+    ensures { (p : ℕ → Bool) → Tests n F.Fn test p → (s : ℕ) → row_has result s ≡ (leb s n && (within 1 members_most s && p s)) }
+{
+    let mut out = Row::empty();
+    for s in 1..=n {
+        if test(s) {
+            out = out.with(s);
+        }
+    }
+    out
+}
+
 // The nodes 1 to n.
 pub fn node_row(n: u16) -> Row
     ensures { (s : ℕ) → row_has result s ≡ (leb s n && within 1 members_most s) }
 {
-    let mut out = Row::empty();
-    let mut s: u16 = 0;
-    while s < n {
-        s += 1;
-        out = out.with(s);
-    }
-    out
+    nodes_where(n, |_| true)
 }
 
 // The nodes where signal i is set.
 pub fn signal_row(m: &[u16], i: u16) -> Row
     ensures { (s : ℕ) → row_has result s ≡ (leb s (Machine.nodes m.now) && (within 1 members_most s && Machine.signal_at m.now i s)) }
 {
-    let n = machine::nodes(m);
-    let mut out = Row::empty();
-    let mut s: u16 = 0;
-    while s < n {
-        s += 1;
-        if machine::signal_at(m, i, s) {
-            out = out.with(s);
-        }
-    }
-    out
+    nodes_where(machine::nodes(m), |s| machine::signal_at(m, i, s))
 }
 
 // The start nodes.
 pub fn start_row(m: &[u16]) -> Row
     ensures { (s : ℕ) → row_has result s ≡ (leb s (Machine.nodes m.now) && (within 1 members_most s && eqb (Machine.start_flag m.now s) 1)) }
 {
-    let n = machine::nodes(m);
-    let mut out = Row::empty();
-    let mut s: u16 = 0;
-    while s < n {
-        s += 1;
-        if machine::start_flag(m, s) == 1 {
-            out = out.with(s);
-        }
-    }
-    out
+    nodes_where(machine::nodes(m), |s| machine::start_flag(m, s) == 1)
 }
 
 // The marks that the edges of node s lead to, where `mark` has the mark of each node, 0 for none, and `all` has at least these marks. No
 // mark is read when all are found.
 pub fn marks_into(m: &[u16], mark: &[u16; NODE_PLACES], all: Row, s: u16, tail: Tail) -> Row
-    requires { ((e : ℕ) → T (marks_into m.now mark.now s e) → T (row_has all e)) × TailOf m.now tail }
+    requires covered { (e : ℕ) → T (marks_into m.now mark.now s e) → T (row_has all e) }
+    requires tailed { TailOf m.now tail }
     ensures { (e : ℕ) → row_has result e ≡ marks_into m.now mark.now s e }
 {
     let mut out = Row::empty();
-    let mut left = successor_row(m, s, tail);
-    loop {
+    let next = successor_row(m, s, tail);
+    for t in next.members() {
         if all.difference(out).is_empty() {
             return out;
         }
-        let t = left.first();
-        if t == 0 {
-            return out;
-        }
         out = out.with(mark[t as usize]);
-        left = left.without(t);
     }
+    out
 }
 
 // The successors of each node s, at row s - 1.
 pub fn successors(m: &[u16]) -> [u64; TABLE_WORDS]
     ensures { (s t : ℕ) → 1 ≤ s → s ≤ Machine.nodes m.now → s ≤ table_rows → rows_has result (s - 1) t ≡ (within 1 members_most t && (Machine.kripke m.now).edge s t) }
 {
-    let n = machine::nodes(m);
+    let n = machine::nodes(m).min(TABLE_ROWS);
     let mut out = [0u64; TABLE_WORDS];
-    let mut s: u16 = 0;
-    while s < n && s < TABLE_ROWS {
+    for s in 0..n {
         let row = successor_row(m, s + 1, no_tail());
         store(&mut out, s as usize, row);
-        s += 1;
     }
     out
 }
@@ -277,13 +249,7 @@ fn add_before(set: Row, s: u16, out: &mut [u64; TABLE_WORDS])
     requires { length out.old ≡ table_words }
     ensures { AddedBefore (row_has set) s out.old out.new }
 {
-    let mut left = set;
-    loop {
-        let u = left.first();
-        if u == 0 {
-            return;
-        }
-        left = left.without(u);
+    for u in set.members() {
         add(out, u as usize, s);
     }
 }
@@ -294,11 +260,9 @@ pub fn predecessors(next: &[u64; TABLE_WORDS], n: u16) -> [u64; TABLE_WORDS]
     ensures { (s t : ℕ) → 1 ≤ t → t ≤ n → rows_has result (t - 1) s ≡ (leb s n && (within 1 members_most s && rows_has next.now (s - 1) t)) }
 {
     let mut out = [0u64; TABLE_WORDS];
-    let mut s: u16 = 0;
-    while s < n {
+    for s in 0..n {
         let row = load(next, s as usize);
-        s += 1;
-        add_before(row, s, &mut out);
+        add_before(row, s + 1, &mut out);
     }
     out
 }
@@ -309,13 +273,8 @@ pub fn together(table: &[u64], set: Row) -> Row
     ensures { (s : ℕ) → T (row_has result s) ↔ Before table.now (row_has set) s }
 {
     let mut out = Row::empty();
-    let mut left = set;
-    loop {
-        let u = left.first();
-        if u == 0 {
-            return out;
-        }
+    for u in set.members() {
         out = out.union(line_row(table, u as usize));
-        left = left.without(u);
     }
+    out
 }

@@ -3,6 +3,9 @@ use Rattle.std.specs.Prelude.{◌≡◌, ℕ, zero, suc, ◌+◌, ◌-◌, ◌*�
 use Rattle.truth.specs.Passed.{signals_most, line_words, line_record, signal_operation, negation_operation, either_operation, some_path_operation}
 use Rattle.comparison.specs.inner.Sizes.{written_space}
 use Rattle.comparison.specs.Comparison.{next_words, rule_head}
+use Rattle.comparison.specs.declared.writing.Written.{Written}
+use Rattle.comparison.specs.declared.writing.Line.{Line}
+use Rattle.comparison.specs.declared.writing.Line.TheVariants.{Signal, Not, Or, Next}
 
 -- signal i; not line j; line i or line j; some next node has line j
 pub data Entry : Type 0 where
@@ -10,6 +13,13 @@ pub data Entry : Type 0 where
   neg : ℕ → Entry
   alt : ℕ → ℕ → Entry
   next : ℕ → Entry
+
+-- a line that was taken apart, or is to be written
+abbrev pub entry_of : Line → Entry
+entry_of (Signal i) = sig i
+entry_of (Not j) = neg j
+entry_of (Or i j) = alt i j
+entry_of (Next j) = next j
 
 -- the words of a line record
 unfoldable pub words : Entry → List ℕ
@@ -71,3 +81,8 @@ pub record HoldsLines (space : List ℕ) (ls : List Entry) : Type 0 where
 pub record Adds (before after : List ℕ) (n : ℕ) (more : List Entry) : Type 0 where
   pub size : length after ≡ written_space
   pub adds : (ls : List Entry) → length ls ≡ n → HoldsLines before ls → HoldsLines after (ls ++ more)
+
+-- the lines `more` are written, as the next ones
+pub record Pushed (before after : Written) (more : List Entry) : Type 0 where
+  pub count : after.count ≡ before.count + length more
+  pub adds : Adds before.words after.words before.count more

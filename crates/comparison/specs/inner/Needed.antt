@@ -3,15 +3,7 @@ use Rattle.std.specs.Prelude.{◌≡◌, ◌⊎◌, ◌↔◌, ℕ, ◌≤◌, �
 use Rattle.truth.specs.Passed.{kripke, nodes, machine_refusal}
 use Rattle.comparison.specs.inner.Lines.{Entry, sig, neg, alt, next, entry, Downward, HoldsLines}
 use Rattle.comparison.specs.inner.Blocks.{TrueIn}
-use Rattle.comparison.specs.declared.needed.Line.{Line}
-use Rattle.comparison.specs.declared.needed.Line.TheVariants.{Signal, Not, Or, Next}
-
--- a line that was taken apart
-abbrev pub entry_of : Line → Entry
-entry_of (Signal i) = sig i
-entry_of (Not j) = neg j
-entry_of (Or i j) = alt i j
-entry_of (Next j) = next j
+use Rattle.comparison.specs.declared.needed.Merging.{Merging}
 
 -- the line with its references renumbered
 unfoldable pub renumber : (ℕ → ℕ) → Entry → Entry
@@ -101,6 +93,9 @@ pub record Merged (ls : List Entry) (i : ℕ) (same other nexts : List ℕ) (top
   pub opposed : (k : ℕ) → 1 ≤ get_or other k 0 → Opposed ls i other k
   pub followed : (k : ℕ) → 1 ≤ get_or nexts k 0 → Followed ls i nexts k
   pub always : 1 ≤ top → Always ls top
+
+abbrev pub MergedIn : List Entry → ℕ → Merging → Type 0
+MergedIn ls i m = Merged ls i m.same.places m.other.places m.nexts.places m.top
 
 -- ---- needed lines
 

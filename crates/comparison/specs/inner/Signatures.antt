@@ -1,9 +1,10 @@
 -- Signatures: the marks of blocks on nodes, the marks that a node's edges lead to, and what they tell of a block.
-use Rattle.std.specs.Prelude.{◌≡◌, ◌⊎◌, ◌≢◌, ℕ, ◌+◌, ◌<◌, List, Bool, true, not, length, get_or, T}
+use Rattle.std.specs.Prelude.{◌≡◌, ◌⊎◌, ℕ, ◌+◌, ◌<◌, List, Bool, true, not, length, get_or, T, Option, None, Some}
 use Rattle.truth.specs.inner.Rows.{row_has, marks_into}
 use Rattle.comparison.specs.inner.Sizes.{node_places}
 use Rattle.comparison.specs.inner.Blocks.{Members, Unsplit, Split}
-use Rattle.comparison.specs.inner.Tables.{State, first_of, second_of, OfNodes}
+use Rattle.comparison.specs.inner.Tables.{first_of, second_of, OfNodes}
+use Rattle.comparison.specs.declared.blocks.Partition.{Partition}
 use Rattle.comparison.specs.inner.Stages.{Staged, Finer, NextsDone}
 use Rattle.comparison.specs.declared.signatures.Lead.{Lead}
 
@@ -25,24 +26,24 @@ MarksIn M mark row all = (s e : ℕ) → T (row s) → T (marks_into M mark s e)
 
 -- ---- what is told of the signatures
 
--- r is a mark that one of the sets has and the other has not, or 0 where they are the same
-pub record TellsApart (a b : ℕ → Bool) (r : ℕ) : Type 0 where
-  pub none : r ≡ 0 → (e : ℕ) → a e ≡ b e
-  pub found : r ≢ 0 → a r ≡ not (b r)
+-- a mark that one of the sets has and the other has not, or none where they are the same
+abbrev pub TellsApart : (ℕ → Bool) → (ℕ → Bool) → Option ℕ → Type 0
+TellsApart a b None = (e : ℕ) → a e ≡ b e
+TellsApart a b (Some r) = a r ≡ not (b r)
 
--- r is a mark in which some node of the row differs from the set, or 0 where none does
-pub record TellsUnlike (M mark : List ℕ) (row l : ℕ → Bool) (r : ℕ) : Type 0 where
-  pub none : r ≡ 0 → (s : ℕ) → T (row s) → (e : ℕ) → marks_into M mark s e ≡ l e
-  pub found : r ≢ 0 → (s : ℕ) × T (row s) × (marks_into M mark s r ≡ not (l r))
+-- a mark in which some node of the row differs from the set, or none where none does
+abbrev pub TellsUnlike : (M mark : List ℕ) (row l : ℕ → Bool) → Option ℕ → Type 0
+TellsUnlike M mark row l None = (s : ℕ) → T (row s) → (e : ℕ) → marks_into M mark s e ≡ l e
+TellsUnlike M mark row l (Some r) = (s : ℕ) × T (row s) × (marks_into M mark s r ≡ not (l r))
 
 -- the set is the signature of a node of the rows, if they have one; the others are left
 pub record Led (M₁ M₂ mark₁ mark₂ : List ℕ) (row₁ row₂ : ℕ → Bool) (lead : Lead) : Type 0 where
   pub leads : ((s : ℕ) × T (row₁ s) × ((e : ℕ) → marks_into M₁ mark₁ s e ≡ row_has lead.marks e))
       ⊎ (((t : ℕ) × T (row₂ t) × ((e : ℕ) → marks_into M₂ mark₂ t e ≡ row_has lead.marks e)) ⊎ (((s : ℕ) → T (row₁ s) → ⊥) × ((t : ℕ) → T (row₂ t) → ⊥)))
-  pub fewer₁ : (s : ℕ) → T (row_has lead.rest1 s) → T (row₁ s)
-  pub fewer₂ : (t : ℕ) → T (row_has lead.rest2 t) → T (row₂ t)
-  pub like₁ : (s : ℕ) → T (row₁ s) → T (row_has lead.rest1 s) ⊎ ((e : ℕ) → marks_into M₁ mark₁ s e ≡ row_has lead.marks e)
-  pub like₂ : (t : ℕ) → T (row₂ t) → T (row_has lead.rest2 t) ⊎ ((e : ℕ) → marks_into M₂ mark₂ t e ≡ row_has lead.marks e)
+  pub fewer₁ : (s : ℕ) → T (row_has lead.rest.first s) → T (row₁ s)
+  pub fewer₂ : (t : ℕ) → T (row_has lead.rest.second t) → T (row₂ t)
+  pub like₁ : (s : ℕ) → T (row₁ s) → T (row_has lead.rest.first s) ⊎ ((e : ℕ) → marks_into M₁ mark₁ s e ≡ row_has lead.marks e)
+  pub like₂ : (t : ℕ) → T (row₂ t) → T (row_has lead.rest.second t) ⊎ ((e : ℕ) → marks_into M₂ mark₂ t e ≡ row_has lead.marks e)
 
 -- ---- what is told of a block
 
@@ -58,15 +59,16 @@ pub record Alone (row₁ row₂ : ℕ → Bool) : Type 0 where
   pub second : (t : ℕ) → T (row₂ t) → t ≡ node
   pub apart : (s t : ℕ) → T (row₁ s) → T (row₂ t) → ⊥
 
--- r is a mark that the edges of one node of block c lead to and those of another do not, or 0 where there is none
-pub record TellsMark (M₁ M₂ : List ℕ) (m₁ m₂ : Members) (mark₁ mark₂ : List ℕ) (c r : ℕ) : Type 0 where
-  pub none : r ≡ 0 → (e : ℕ) → Unsplit M₁ M₂ m₁ m₂ c (λ s. marks_into M₁ mark₁ s e) (λ t. marks_into M₂ mark₂ t e)
-  pub found : r ≢ 0 → OfNodes M₁ M₂ m₁ m₂ c → Split M₁ M₂ m₁ m₂ c (λ s. marks_into M₁ mark₁ s r) (λ t. marks_into M₂ mark₂ t r)
+-- a mark that the edges of one node of block c lead to and those of another do not, or none where there is none
+abbrev pub TellsMark : (M₁ M₂ : List ℕ) (m₁ m₂ : Members) (mark₁ mark₂ : List ℕ) (c : ℕ) → Option ℕ → Type 0
+TellsMark M₁ M₂ m₁ m₂ mark₁ mark₂ c None = (e : ℕ) → Unsplit M₁ M₂ m₁ m₂ c (λ s. marks_into M₁ mark₁ s e) (λ t. marks_into M₂ mark₂ t e)
+TellsMark M₁ M₂ m₁ m₂ mark₁ mark₂ c (Some r) =
+    OfNodes M₁ M₂ m₁ m₂ c → Split M₁ M₂ m₁ m₂ c (λ s. marks_into M₁ mark₁ s r) (λ t. marks_into M₂ mark₂ t r)
 
 -- ---- a turn
 
 -- where there is no block more, no "some next" of a block splits a block
-pub record Turned (M₁ M₂ : List ℕ) (st st' : State) : Type 0 where
+pub record Turned (M₁ M₂ : List ℕ) (st st' : Partition) : Type 0 where
   pub staged : Staged M₁ M₂ 5 st'
   pub finer : Finer st st'
   pub done : st'.count ≡ st.count → NextsDone M₁ M₂ st'.count (first_of st') (second_of st')

@@ -6,46 +6,26 @@ use Rattle.comparison.specs.inner.Sizes.{written_space, written_most, block_plac
 use Rattle.comparison.specs.inner.Lines.{split, Adds}
 use Rattle.comparison.specs.inner.Blocks.{Members, Meets, Unsplit, Split}
 use Rattle.comparison.specs.inner.Refinement.{Parted, Lined}
-use Rattle.comparison.specs.declared.blocks.Stand.{Stand}
+use Rattle.comparison.specs.declared.writing.Written.{Written}
+use Rattle.comparison.specs.declared.blocks.Partition.{Partition}
 
--- The tables and numbers that refinement works on: row c of `first` and of `second` has the nodes of block c of each machine,
--- `line` at c its line, and `words` the words of the written lines.
-pub record State : Type 0 where
-  pub first : List ℕ
-  pub second : List ℕ
-  pub line : List ℕ
-  pub words : List ℕ
-  pub count : ℕ
-  pub lines : ℕ
-
-abbrev pub state : List ℕ → List ℕ → List ℕ → List ℕ → Stand → State
-state first second line words stand = record {
-  first = first;
-  second = second;
-  line = line;
-  words = words;
-  count = stand.count;
-  lines = stand.lines;
-}
-
-abbrev pub first_of : State → Members
+abbrev pub first_of : Partition → Members
 first_of st = rows_has st.first
 
-abbrev pub second_of : State → Members
+abbrev pub second_of : Partition → Members
 second_of st = rows_has st.second
 
-abbrev pub line_of : State → ℕ → ℕ
+abbrev pub line_of : Partition → ℕ → ℕ
 line_of st c = get_or st.line c 0
 
--- one line more is written
-abbrev pub written : State → List ℕ → State
-written st words = record {
+-- with other written lines
+abbrev pub written : Partition → Written → Partition
+written st lines = record {
   first = st.first;
   second = st.second;
   line = st.line;
-  words = words;
   count = st.count;
-  lines = st.lines + 1;
+  lines = lines;
 }
 
 -- ---- a split
@@ -58,29 +38,24 @@ pub record LinedBlocks (count c n : ℕ) (before after : List ℕ) : Type 0 wher
   pub size : length after ≡ block_places
   pub lined : Lined count c n (λ d. get_or before d 0) (λ d. get_or after d 0)
 
--- the numbers after a split
-pub record Advanced (before after : Stand) : Type 0 where
-  pub count : after.count ≡ before.count + 1
-  pub lines : after.lines ≡ before.lines + 6
-
 -- room for a split of block c
-pub record Room (st : State) (c : ℕ) : Type 0 where
+pub record Room (st : Partition) (c : ℕ) : Type 0 where
   pub block : c < st.count
   pub count : st.count < nodes_most
-  pub lines : st.lines + 6 ≤ written_most
+  pub lines : st.lines.count + 6 ≤ written_most
   pub first : length st.first ≡ block_words
   pub second : length st.second ≡ block_words
   pub line : length st.line ≡ block_places
-  pub words : length st.words ≡ written_space
+  pub words : length st.lines.words ≡ written_space
 
 -- block c was split by the sets, where line p is true
-pub record SplitBlock (st st' : State) (c p : ℕ) (x₁ x₂ : ℕ → Bool) : Type 0 where
+pub record SplitBlock (st st' : Partition) (c p : ℕ) (x₁ x₂ : ℕ → Bool) : Type 0 where
   pub first : PartedRows st.count c x₁ st.first st'.first
   pub second : PartedRows st.count c x₂ st.second st'.second
-  pub line : LinedBlocks st.count c st.lines st.line st'.line
-  pub words : Adds st.words st'.words st.lines (split st.lines (line_of st c) p)
+  pub line : LinedBlocks st.count c st.lines.count st.line st'.line
+  pub words : Adds st.lines.words st'.lines.words st.lines.count (split st.lines.count (line_of st c) p)
   pub count : st'.count ≡ st.count + 1
-  pub lines : st'.lines ≡ st.lines + 6
+  pub lines : st'.lines.count ≡ st.lines.count + 6
 
 -- ---- what is told
 

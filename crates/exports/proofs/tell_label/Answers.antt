@@ -1,13 +1,13 @@
 -- `tell_label` meets its contract, answer by answer.
-use mathlib.Core.Path.{ap, sym}
+use Rattle.std.proofs.Common.{ap, sym}
 use Rattle.exports.specs.Numbers.{label_numbers}
 use Rattle.exports.proofs.Flags.{flag}
 use Rattle.exports.proofs.tell_label.Goals as goal
 
-pub returns-in-Refused : goal.returns-in-Refused
+pub returns-in-Ok : goal.returns-in-Ok
 unfolding label_numbers
-returns-in-Refused c = sym (ap label_numbers c.in-Refused.is)
+returns-in-Ok c = rw (flag _) (sym (ap label_numbers c.in-Ok.is))
 
-pub returns-in-Done : goal.returns-in-Done
+pub returns-in-Err : goal.returns-in-Err
 unfolding label_numbers
-returns-in-Done c = rw (flag _) (sym (ap label_numbers c.in-Done.is))
+returns-in-Err c = rw (c.number.ensures, c.sheet.ensures) (sym (ap label_numbers c.in-Err.is))

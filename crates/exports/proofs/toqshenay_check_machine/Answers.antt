@@ -1,12 +1,11 @@
 -- `toqshenay_check_machine` meets its contract: the number of the answer.
-use Rattle.sheets.specs.Machine.{machine_questions}
-use Rattle.sheets.proofs.CheckAnswers.{accepted-number, refused-number}
+use Rattle.std.proofs.Common.{ap}
+use Rattle.sheets.specs.Questions.{Refusal, none}
 use Rattle.exports.proofs.toqshenay_check_machine.Goals as goal
 
-pub returns-in-Accepted : goal.returns-in-Accepted
-returns-in-Accepted c =
-    accepted-number (machine_questions 1 c.args.m.now) _ c.check_machine-answer.ensures c.in-Accepted.is
+pub returns-in-Ok : goal.returns-in-Ok
+unfolding none
+returns-in-Ok c = ap (λ (r : Refusal). r.number) c.in-Ok.ensures.refusal
 
-pub returns-in-Refused : goal.returns-in-Refused
-returns-in-Refused c =
-    refused-number (machine_questions 1 c.args.m.now) _ c.check_machine-answer.ensures _ _ c.in-Refused.is
+pub returns-in-Err : goal.returns-in-Err
+returns-in-Err c = rw c.number.ensures (ap (λ (r : Refusal). r.number) c.in-Err.ensures.refusal)

@@ -4,4 +4,4 @@ use Rattle.path.proofs.tell.Goals as goal
 
 pub pairs-requires : goal.pairs-requires
 pairs-requires g c =
-    pairs-fit _ _ _ _ _ _ _ _ _ _ c.requires.answered c.in-Path.is
+    pairs-fit _ _ _ _ _ _ c.in-Some.shown _ _ c.requires.answered c.in-Ok.is c.in-Some.is

@@ -2,30 +2,28 @@
 use Rattle.std.specs.Prelude.{◌≡◌, ℕ, ◌+◌, List, [], ◌∷◌, false, cond, length}
 use Rattle.text.specs.Texts.{Read, fault, with_word, gap, number, reading, next, commented}
 use Rattle.text.specs.declared.read.Place.{Place}
-use Rattle.text.specs.declared.read.Reading.{Reading}
-use Rattle.text.specs.declared.read.Reading.TheVariants.{Words, Fault}
+use Rattle.text.specs.declared.read.Kind.{Kind}
 use Rattle.text.specs.declared.reader.State.{State}
 use Rattle.text.specs.declared.reader.State.TheVariants.{Gap, Number, Stopped}
-use Rattle.text.specs.declared.reader.Moved.{Moved}
 use Rattle.text.specs.declared.reader.Reader.{Reader}
 
 -- the reading of a text without comments, from a state on
 unfoldable pub from : State → List ℕ → ℕ → Place → Read
 from Gap text room at = reading text gap room at
 from (Number first n) text room at = reading text (number first n) room at
-from (Stopped kind there) text room at = fault kind there
+from (Stopped found) text room at = fault found.kind found.at
 
 -- the word that a state holds
 unfoldable pub held : State → List ℕ
 held Gap = []
 held (Number first n) = n ∷ []
-held (Stopped kind there) = []
+held (Stopped found) = []
 
 -- the word that is whole where one state follows another
 unfoldable pub ended : State → State → List ℕ
 ended before Gap = held before
 ended before (Number first n) = []
-ended before (Stopped kind there) = held before
+ended before (Stopped found) = held before
 
 -- what is read with words before it
 unfoldable pub with_words : List ℕ → Read → Read
@@ -33,23 +31,21 @@ with_words [] read = read
 with_words (w ∷ ws) read = with_word w (with_words ws read)
 
 -- the state after a byte: the same reading of whatever follows, and the room for words
-pub record Moves (state : State) (room : ℕ) (at : Place) (b : ℕ) (r : Moved) : Type 0 where
-  pub reads : (text : List ℕ) → from state (b ∷ text) room at ≡ with_words (ended state r.state) (from r.state text r.room (next at b))
-  pub counts : length (ended state r.state) + length (held r.state) + r.room ≡ length (held state) + room
+pub record Moves (before : Reader) (b : ℕ) (r : Reader) : Type 0 where
+  pub reads : (text : List ℕ) → from before.state (b ∷ text) before.room before.at
+      ≡ with_words (ended before.state r.state) (from r.state text r.room (next before.at b))
+  pub counts : length (ended before.state r.state) + length (held r.state) + r.room ≡ length (held before.state) + before.room
 
 -- a reader before the first byte
 abbrev pub start_of : ℕ → Reader
 start_of room = record { comment = false; at = record { line = 1; column = 1 }; room = room; state = Gap }
 
+-- a reader at a fault
+abbrev pub stopped_at : Reader → Kind → Place → Reader
+stopped_at before kind there = record { comment = before.comment; at = before.at; room = before.room; state = Stopped (record { kind = kind; at = there }) }
+
 -- a reader after one byte more: a byte of a comment counts as a space
 pub record Steps (before : Reader) (byte : ℕ) (r : Reader) : Type 0 where
   pub comment : r.comment ≡ commented before.comment byte
   pub at : r.at ≡ next before.at (cond (commented before.comment byte) 32 byte)
-  pub moves : Moves before.state before.room before.at (cond (commented before.comment byte) 32 byte)
-      (record { state = r.state; room = r.room })
-
--- the answer at the end of a text, where so many words have begun
-unfoldable pub told_of : State → ℕ → Reading
-told_of Gap count = Words count
-told_of (Number first n) count = Words count
-told_of (Stopped kind there) count = Fault kind there
+  pub moves : Moves before (cond (commented before.comment byte) 32 byte) r

@@ -1,6 +1,6 @@
 -- A row walked node by node, with a time written at each: the nodes seen have it, and all else is as it was.
-use mathlib.Core.Path.{◌≡◌, refl, ◌∙◌}
-use mathlib.Core.Logic.{◌⊎◌, inl, inr, ⊎_elim, ⊎_map, by_cases}
+use mathlib.Core.Path.{◌≡◌, ◌∙◌}
+use mathlib.Core.Logic.{◌⊎◌, inr, ⊎_elim, ⊎_map, by_cases}
 use Prim.Native.Nat.{ℕ, ◌≤◌, ◌<◌}
 use native.Mathlib.Decide.{ℕ_discrete}
 use mathlib.Core.List.{List}
@@ -20,9 +20,6 @@ pub record Putting (f rest : ℕ → Bool) (p time : ℕ) (times times' : List �
   pub others : (q s : ℕ) → 1 ≤ s → s ≤ members_most → (q ≡ p → T (not (f s))) → time_of times' q s ≡ time_of times q s
 
 module _ (f : ℕ → Bool) (inside : (s : ℕ) → T (f s) → (1 ≤ s) × (s ≤ members_most)) (p time : ℕ) (times : List ℕ) where
-  pub putting-none : Putting f f p time times times
-  putting-none = record { size = refl; part = λ s t. t; timed = λ s t. inl t; others = λ q s lo hi n. refl }
-
   pub putting-all : (rest : ℕ → Bool) (times' : List ℕ) → Putting f rest p time times times' → ((s : ℕ) → T (rest s) → ⊥) → TimePut f p time times times'
   putting-all rest times' m none = record {
     size = m.size;

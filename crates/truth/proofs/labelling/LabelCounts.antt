@@ -10,6 +10,7 @@ use mathlib.Core.List.{List}
 use mathlib.Core.Bool.{Bool, false, not}
 use lib.ListN.{length}
 use lib.Dec.{T, T_not}
+use Rattle.std.specs.Prelude.{Ok}
 use Rattle.sheets.specs.Words.{word, indicator, sum}
 use Rattle.sheets.specs.Questions.{Refusal, none as no_refusal}
 use Rattle.sheets.specs.Machine.{nodes}
@@ -24,8 +25,8 @@ use Rattle.truth.specs.Sizes.{row_words, members_most, row_word_bits}
 use Rattle.truth.specs.Truth.{TrueAt}
 use Rattle.truth.specs.inner.Rows.{held}
 use Rattle.truth.specs.Labelling.{row_bit, row_ones, Rows, HowMany, none, one_more, no_more, NearestPercent}
-use Rattle.truth.specs.LabelAnswers.{refusal_of, Leaves, LabelAnswer}
-use Rattle.truth.specs.declared.labelling.Labelled.TheVariants.{Done}
+use Rattle.truth.specs.LabelAnswers.{Leaves, LabelAnswer}
+use Rattle.truth.specs.declared.labelling.Labelled.{Labelled}
 use Rattle.truth.proofs.rows.RowLaws.{tally-number, sum-split, held-count}
 use Rattle.truth.proofs.tables.RowBits.{row-bit}
 use Rattle.truth.proofs.labelling.LabelTable.{machine-accepted, rules-accepted}
@@ -86,10 +87,10 @@ tested-many P p (suc n) says =
     many_more P p n (says (suc n) (omega arith) (omega arith)) (tested-many P p n (λ s lo hi. says s lo (omega arith)))
 
 -- the words of the space are of 64 bits
-pub count-true : (M R before after : List ℕ) (kept : Bool) (count share : ℕ) → LabelAnswer M R before after (Done kept count share)
-    → ((i : ℕ) → word after i < 2 ^ row_word_bits) → HowMany (TrueAt lent M R (lines R)) (nodes M) count
-unfolding refusal_of Leaves no_refusal
-count-true M R before after kept count share answer words =
+pub count-true : (M R before after : List ℕ) (found : Labelled) → LabelAnswer M R before after (Ok found)
+    → ((i : ℕ) → word after i < 2 ^ row_word_bits) → HowMany (TrueAt lent M R (lines R)) (nodes M) found.count
+unfolding Leaves no_refusal
+count-true M R before after found answer words =
     let asked = ap (λ (r : Refusal). r.number) answer.refusal in
     let some = some-line lent R (rules-accepted M R (length before) asked) in
     let small = (nodes-sized M (machine-accepted M R (length before) asked)).1 in
@@ -98,11 +99,11 @@ count-true M R before after kept count share answer words =
     rw e (tested-many (TrueAt lent M R (lines R)) (row_bit after (lines R)) (nodes M) (λ s lo hi. rows.truth (lines R) s some (omega arith) lo hi))
 
 -- the percent that labelling answers, and no other number, is a nearest whole number to 100 count / n, where two are as near the even one
-pub share-nearest : (M R before after : List ℕ) (kept : Bool) (count share : ℕ) → LabelAnswer M R before after (Done kept count share)
-    → (p : ℕ) → NearestPercent count (nodes M) p ↔ p ≡ share
-unfolding refusal_of Leaves no_refusal
-share-nearest M R before after kept count share answer p =
+pub share-nearest : (M R before after : List ℕ) (found : Labelled) → LabelAnswer M R before after (Ok found)
+    → (p : ℕ) → NearestPercent found.count (nodes M) p ↔ p ≡ found.percent
+unfolding Leaves no_refusal
+share-nearest M R before after found answer p =
     let asked = ap (λ (r : Refusal). r.number) answer.refusal in
     let some = (nodes-sized M (machine-accepted M R (length before) asked)).0 in
     let said = answer.leaves.shared in
-    (λ h. nearest-percent count (nodes M) p some h ∙ sym said, λ e. rw (e ∙ said) (percent-nearest count (nodes M) some))
+    (λ h. nearest-percent found.count (nodes M) p some h ∙ sym said, λ e. rw (e ∙ said) (percent-nearest found.count (nodes M) some))

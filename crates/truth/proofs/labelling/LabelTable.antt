@@ -1,5 +1,5 @@
--- The table of labelling: questions 1 to 16, then its own, of the space. The number of the first "no" gives its sheet, and where no question
--- refuses, both sheets are accepted and the space is enough.
+-- The table of labelling: questions 1 to 16, then its own, of the space. Where no question refuses, both sheets are accepted and the space
+-- is enough.
 use mathlib.Core.Path.{◌≡◌, subst⁻¹}
 use Prim.Native.Nat.{ℕ, ◌*◌, ◌≤◌}
 use native.Mathlib.Omega.{arith}
@@ -12,7 +12,7 @@ use Rattle.sheets.specs.Machine.{signals, machine_refusal}
 use Rattle.sheets.specs.Rules.{lent, lines, over_signals, rule_refusal}
 use Rattle.sheets.specs.Sheets.{sheet_of}
 use Rattle.sheets.proofs.Questions.{AllYes}
-use Rattle.sheets.proofs.SheetTable.{BothAccepted, Sheeted, call-accepted, call-refused, call_none, call_passes}
+use Rattle.sheets.proofs.SheetTable.{BothAccepted, Sheeted, call-accepted, call_passes}
 use Rattle.truth.specs.Sizes.{row_words}
 use Rattle.truth.specs.Labelling.{label_questions}
 
@@ -27,16 +27,7 @@ module _ (M R : List ℕ) (space : ℕ) where
   unfolding sheet_of indicator
   space-sheeted = omega arith
 
-  -- a refusal's number gives its sheet
-  pub refusal-found : (q : ℕ) → q ≡ labelled → (q ≡ 0 → ⊥) → record { number = q; sheet = sheet_of q } ≡ first_no (label_questions M R space)
-  unfolding label_questions
-  refusal-found q e n = call-refused M R (space_question R space) space-sheeted q e n
-
   module _ (e : 0 ≡ labelled) where
-    pub none-refused : no_refusal ≡ first_no (label_questions M R space)
-    unfolding label_questions
-    none-refused = call_none M R (space_question R space) space-sheeted e
-
     accepted : BothAccepted M R × AllYes (space_question R space)
     unfolding label_questions
     accepted = call-accepted M R (space_question R space) e

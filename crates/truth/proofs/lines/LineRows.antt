@@ -16,7 +16,7 @@ use Rattle.sheets.specs.inner.Lines.{decoded}
 use Rattle.sheets.specs.declared.lines.PathLine.{PathLine}
 use Rattle.sheets.specs.declared.lines.Line.{Line}
 use Rattle.sheets.specs.declared.lines.Line.TheVariants.{Signal, Negation, Either, SomePath, SomePathNot}
-use Rattle.sheets.specs.declared.lines.Decoded.TheVariants.{Formed, Malformed}
+use Rattle.std.specs.Prelude.{Some, None}
 use Rattle.sheets.proofs.Tests.{passed, failed, not_is, or_is}
 use Rattle.sheets.proofs.Search.{within_in}
 use Rattle.sheets.proofs.AcceptedMachine.{nodes-sized}
@@ -33,9 +33,9 @@ use Rattle.truth.proofs.tables.RowBits.{row-bit}
 use Rattle.truth.proofs.lines.DecodedKinds.{meant, line-meant, line-carries, none-malformed, refers}
 
 -- of the nodes 1 to n, those that pass a test
-pub nodes-passing : {n m : ℕ} → n ≡ m → {all : ℕ → Bool} → ((s : ℕ) → all s ≡ (leb s n && within 1 members_most s)) → {row : ℕ → Bool} (f g : ℕ → Bool)
-    → ((s : ℕ) → row s ≡ (all s && f s)) → ((s : ℕ) → f s ≡ g s) → (s : ℕ) → row s ≡ (leb s m && (within 1 members_most s && g s))
-nodes-passing {n} {m} e {all} all_is {row} f g is same s = rw (is s, all_is s, e, same s) (and_assoc (leb s m) (within 1 members_most s) (g s))
+pub nodes-passing : (n : ℕ) {all : ℕ → Bool} → ((s : ℕ) → all s ≡ (leb s n && within 1 members_most s)) → {row : ℕ → Bool} (f g : ℕ → Bool)
+    → ((s : ℕ) → row s ≡ (all s && f s)) → ((s : ℕ) → f s ≡ g s) → (s : ℕ) → row s ≡ (leb s n && (within 1 members_most s && g s))
+nodes-passing n {all} all_is {row} f g is same s = rw (is s, all_is s, same s) (and_assoc (leb s n) (within 1 members_most s) (g s))
 
 -- a path line, with accepting and non-accepting states exchanged or not
 abbrev path_line : Bool → PathLine → Line
@@ -43,7 +43,7 @@ path_line false p = SomePath p
 path_line true p = SomePathNot p
 
 module _ {M R next back rows : List ℕ} {j : ℕ} (pre : LineReady M R next back rows j) where
-  refer : (l : Line) → decoded R j ≡ Formed l → FormedLines.Formed signals_most (automata R) (automaton R) j (meant R j l)
+  refer : (l : Line) → decoded R j ≡ Some l → FormedLines.Formed signals_most (automata R) (automaton R) j (meant R j l)
   refer = refers R j pre.ready.rules pre.from pre.to
 
   -- ---- what the lines referred to ask for
@@ -51,11 +51,11 @@ module _ {M R next back rows : List ℕ} {j : ℕ} (pre : LineReady M R next bac
   above : {k : ℕ} → (1 ≤ k) × (k < j) → (1 ≤ k) × (row_words * k ≤ length rows)
   above r = (r.0, omega (arith, r.0, r.1, pre.above))
 
-  pub negation-above : {k : ℕ} → decoded R j ≡ Formed (Negation k) → (1 ≤ k) × (row_words * k ≤ length rows)
+  pub negation-above : {k : ℕ} → decoded R j ≡ Some (Negation k) → (1 ≤ k) × (row_words * k ≤ length rows)
   unfolding FormedLines.Formed
   negation-above {k} e = above (refer (Negation k) e)
 
-  pub either-above : {i k : ℕ} → decoded R j ≡ Formed (Either i k) → ((1 ≤ i) × (row_words * i ≤ length rows)) × ((1 ≤ k) × (row_words * k ≤ length rows))
+  pub either-above : {i k : ℕ} → decoded R j ≡ Some (Either i k) → ((1 ≤ i) × (row_words * i ≤ length rows)) × ((1 ≤ k) × (row_words * k ≤ length rows))
   unfolding FormedLines.Formed
   either-above {i} {k} e = let r = refer (Either i k) e in (above r.0, above r.1)
 
@@ -74,19 +74,19 @@ module _ {M R next back rows : List ℕ} {j : ℕ} (pre : LineReady M R next bac
             subst (λ (n : ℕ). (1 ≤ n) × (row_words * n ≤ length rows)) (sym (carries i (omega (arith, few)))) on;
       }
 
-  pub path-ready : (exchanged : Bool) (p : PathLine) → decoded R j ≡ Formed (path_line exchanged p) → PathReady M R next back rows (argument_of p) p.automaton
+  pub path-ready : (exchanged : Bool) (p : PathLine) → decoded R j ≡ Some (path_line exchanged p) → PathReady M R next back rows (argument_of p) p.automaton
   unfolding FormedLines.Formed
   path-ready false p e = path-asks p (line-carries R j (SomePath p) e) (refer (SomePath p) e)
   path-ready true p e = path-asks p (line-carries R j (SomePathNot p) e) (refer (SomePathNot p) e)
 
   -- ---- the rows
 
-  pub malformed-row : {row : ℕ → Bool} → decoded R j ≡ Malformed → LineRow M R rows j row
+  pub malformed-row : {row : ℕ → Bool} → decoded R j ≡ None → LineRow M R rows j row
   malformed-row e = absurd (none-malformed R j pre.ready.rules pre.from pre.to e)
 
   module _ {row : ℕ → Bool} where
     -- a row of those of the nodes that pass a test, where the test is the line's meaning
-    among-nodes : (l : Line) → decoded R j ≡ Formed l → (f : ℕ → Bool) → ((s : ℕ) → row s ≡ (leb s (nodes M) && (within 1 members_most s && f s)))
+    among-nodes : (l : Line) → decoded R j ≡ Some l → (f : ℕ → Bool) → ((s : ℕ) → row s ≡ (leb s (nodes M) && (within 1 members_most s && f s)))
         → ((s : ℕ) → 1 ≤ s → s ≤ members_most → T (f s) ↔ Means (kripke M) (automaton R) (row_truths rows) (meant R j l) s) → LineRow M R rows j row
     among-nodes l e f is means = record {
       truth = λ s lo hi.
@@ -99,19 +99,19 @@ module _ {M R next back rows : List ℕ} {j : ℕ} (pre : LineReady M R next bac
           is s ∙ rw a;
     }
 
-    pub signal-row : {i : ℕ} → decoded R j ≡ Formed (Signal i)
+    pub signal-row : {i : ℕ} → decoded R j ≡ Some (Signal i)
         → ((s : ℕ) → row s ≡ (leb s (nodes M) && (within 1 members_most s && signal_at M i s))) → LineRow M R rows j row
     unfolding Means kripke
     signal-row {i} e is = among-nodes (Signal i) e (signal_at M i) is (λ s lo hi. (λ t. t, λ t. t))
 
-    pub negation-row : {k : ℕ} → decoded R j ≡ Formed (Negation k)
+    pub negation-row : {k : ℕ} → decoded R j ≡ Some (Negation k)
         → ((s : ℕ) → row s ≡ (leb s (nodes M) && (within 1 members_most s && not (rows_has rows (k - 1) s)))) → LineRow M R rows j row
     unfolding Means
     negation-row {k} e is =
         among-nodes (Negation k) e (λ s. not (rows_has rows (k - 1) s)) is
         (λ s lo hi. rw (row-bit rows k s lo hi) (let b = not_is (rows_has rows (k - 1) s) in (b.1, b.0)))
 
-    pub either-row : {i k : ℕ} → decoded R j ≡ Formed (Either i k)
+    pub either-row : {i k : ℕ} → decoded R j ≡ Some (Either i k)
         → ((s : ℕ) → row s ≡ (leb s (nodes M) && (within 1 members_most s && (rows_has rows (i - 1) s || rows_has rows (k - 1) s)))) → LineRow M R rows j row
     unfolding Means
     either-row {i} {k} e is =
@@ -133,7 +133,7 @@ module _ {M R next back rows : List ℕ} {j : ℕ} (pre : LineReady M R next bac
         (path-arguments (kripke M) (automaton R x) (row_truths rows) (good exchanged (automaton R x)) s (argument_of p) (argument R j)
         (λ i l. carries i (omega (arith, l, few, named)))))
 
-    pub path-row : (exchanged : Bool) (p : PathLine) → decoded R j ≡ Formed (path_line exchanged p) → PathRow M R rows (argument_of p) p.automaton exchanged row
+    pub path-row : (exchanged : Bool) (p : PathLine) → decoded R j ≡ Some (path_line exchanged p) → PathRow M R rows (argument_of p) p.automaton exchanged row
         → LineRow M R rows j row
     unfolding Means turned
     path-row false p e is = record {

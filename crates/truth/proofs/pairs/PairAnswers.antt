@@ -8,17 +8,17 @@ use lib.ListN.{length, take, drop, get_or, length-map, length-drop}
 use lib.Seq.{get_or-drop, ext_get_or}
 use Rattle.truth.specs.Sizes.{pairs_most}
 use Rattle.sheets.specs.Words.{word}
+use Rattle.std.specs.Prelude.{Some, None, Ok, Err}
 use Rattle.sheets.specs.Questions.{first_no}
+use Rattle.sheets.specs.Refusals.{refusal_of}
 use Rattle.truth.specs.Path.{path_questions}
-use Rattle.truth.specs.PathAnswers.{refusal_of, length_of, Leaves}
+use Rattle.truth.specs.PathAnswers.{Answer, length_of, Leaves}
 use Rattle.truth.specs.inner.Made.{MadeFor}
 use Rattle.truth.specs.PathPairs.{pair_nodes, pair_states, PairsAnswer}
 use Rattle.truth.specs.declared.pairs.Pair.{Pair}
-use Rattle.truth.specs.declared.path.Shown.{Shown}
-use Rattle.truth.specs.declared.path.Shown.TheVariants.{Refused, NoPath, Path}
 use Rattle.truth.proofs.path.ShownPaths.{count_most, answered}
 
-module _ (M R : List ℕ) (j s : ℕ) (before : List Pair) (nodes states : List ℕ) (count : ℕ) (answer : Shown)
+module _ (M R : List ℕ) (j s : ℕ) (before : List Pair) (nodes states : List ℕ) (count : ℕ) (answer : Answer)
     (made : MadeFor M R j s (min (length before) pairs_most) nodes states answer) (counted : count ≡ length_of answer)
     (long-nodes : length nodes ≡ pairs_most) (long-states : length states ≡ pairs_most) where
   -- no more pairs than the list and what was made have
@@ -61,22 +61,22 @@ map-drop f (suc k) [] = refl
 map-drop f (suc k) (x ∷ xs) = map-drop f k xs
 
 -- the pairs past as many as the answer fills are as before: all of them where it is refused, and where there is no path
-pub pairs-kept : (M R : List ℕ) (j s : ℕ) (before after : List Pair) (answer : Shown) → PairsAnswer M R j s before after answer
+pub pairs-kept : (M R : List ℕ) (j s : ℕ) (before after : List Pair) (answer : Answer) → PairsAnswer M R j s before after answer
     → drop (length_of answer) after ≡ drop (length_of answer) before
-unfolding length_of Leaves
-pairs-kept M R j s before after (Refused q i) a = same-pairs after before a.leaves.1 a.leaves.2
-pairs-kept M R j s before after NoPath a = same-pairs after before a.leaves.1 a.leaves.2
-pairs-kept M R j s before after (Path l b) a =
+unfolding Leaves
+pairs-kept M R j s before after (Err refusal) a = same-pairs after before a.leaves.1 a.leaves.2
+pairs-kept M R j s before after (Ok None) a = same-pairs after before a.leaves.1 a.leaves.2
+pairs-kept M R j s before after (Ok (Some path)) a =
     let shown = a.leaves.1 in
-    same-pairs (drop l after) (drop l before)
-    (map-drop (λ (p : Pair). p.node) l after ∙ dropped-same l (pair_nodes after) (pair_nodes before) shown.size-nodes shown.rest-nodes
-    ∙ sym (map-drop (λ (p : Pair). p.node) l before))
-    (map-drop (λ (p : Pair). p.state) l after ∙ dropped-same l (pair_states after) (pair_states before) shown.size-states
+    same-pairs (drop path.length after) (drop path.length before)
+    (map-drop (λ (p : Pair). p.node) path.length after ∙ dropped-same path.length (pair_nodes after) (pair_nodes before) shown.size-nodes shown.rest-nodes
+    ∙ sym (map-drop (λ (p : Pair). p.node) path.length before))
+    (map-drop (λ (p : Pair). p.state) path.length after ∙ dropped-same path.length (pair_states after) (pair_states before) shown.size-states
     shown.rest-states
-    ∙ sym (map-drop (λ (p : Pair). p.state) l before))
+    ∙ sym (map-drop (λ (p : Pair). p.state) path.length before))
 
 -- a refusal is the first "no" of the table with the list's length for the room
-pub pairs-refusal : (M R : List ℕ) (j s : ℕ) (before after : List Pair) (answer : Shown) → PairsAnswer M R j s before after answer
+pub pairs-refusal : (M R : List ℕ) (j s : ℕ) (before after : List Pair) (answer : Answer) → PairsAnswer M R j s before after answer
     → refusal_of answer ≡ first_no (path_questions M R j s (length before))
 pairs-refusal M R j s before after answer a =
     let ln : length (pair_nodes before) ≡ length before = length-map before (λ (p : Pair). p.node) in

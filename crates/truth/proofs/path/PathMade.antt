@@ -1,6 +1,6 @@
 -- What a path call makes: refused by the first "no" of its table; or what is said of the asked line by the rows of the lines above it,
 -- which say their truths.
-use mathlib.Core.Path.{◌≡◌, sym, subst, ◌∙◌}
+use mathlib.Core.Path.{◌≡◌, refl, sym, ap, subst}
 use mathlib.Core.Logic.{◌↔◌}
 use Prim.Native.Nat.{ℕ, ◌-◌, ◌*◌, ◌≤◌, ◌<◌}
 use native.Mathlib.Omega.{arith}
@@ -10,18 +10,21 @@ use lib.ListN.{length}
 use lib.Dec.{T, leb, leb→le, eqb}
 use Rattle.sheets.specs.Format.{variables_most, lines_most, operation_place, operand_place}
 use Rattle.sheets.specs.Operations.{some_path_operation, some_path_not_operation}
-use Rattle.sheets.specs.Words.{within, indicator}
-use Rattle.sheets.specs.Questions.{none as no_refusal, first_no}
+use Rattle.sheets.specs.Words.{within}
+use Rattle.std.specs.Prelude.{Some, None, Result, Ok, Err}
+use Rattle.sheets.specs.Questions as Questions
+use Rattle.sheets.specs.Questions.{none as no_refusal, Question, first_no}
+use Rattle.sheets.specs.Refusals.{refusal_of}
+use Rattle.sheets.specs.declared.refusal.Refusal.{Refusal}
 use Rattle.sheets.specs.Machine.{nodes, machine_refusal}
 use Rattle.sheets.specs.Rules.{lent, fits, lines, line_word, automata, automaton, q7, rule_refusal}
 use Rattle.sheets.specs.inner.Lines.{path_line}
 use Rattle.sheets.specs.declared.lines.PathLine.{PathLine}
 use Rattle.sheets.specs.Positioned.{state_count}
-use Rattle.sheets.specs.Sheets.{sheet_of}
 use Rattle.sheets.proofs.Tests.{and_left, and_right}
 use Rattle.sheets.proofs.Search.{within-at}
 use Rattle.sheets.proofs.Questions.{AllYes, rule-answers}
-use Rattle.sheets.proofs.SheetTable.{BothAccepted, Sheeted, call-accepted, call-refused, call_none}
+use Rattle.sheets.proofs.SheetTable.{BothAccepted, call-accepted}
 use Rattle.sheets.proofs.PositionedStates.{positioned-named, few-valued}
 use Rattle.truth.specs.Sizes.{row_words, lines_words}
 use Rattle.truth.specs.Truth.{TrueAt}
@@ -30,11 +33,11 @@ use Rattle.truth.specs.inner.Product.{argument, argument_of}
 use Rattle.truth.specs.inner.OneLine.{Ready, PathReady, Holds}
 use Rattle.truth.specs.inner.Trails.{placed}
 use Rattle.truth.specs.Path.{asked, q18, q19, path_questions}
-use Rattle.truth.specs.PathAnswers.{refusal_of}
+use Rattle.truth.specs.PathAnswers.{Answer}
 use Rattle.truth.specs.inner.Made.{MadePath, MadeFor}
 use Rattle.truth.specs.inner.Shows.{ShowsLine}
-use Rattle.truth.specs.declared.path.Shown.{Shown}
-use Rattle.truth.specs.declared.path.Shown.TheVariants.{Refused, NoPath, Path}
+use Rattle.sheets.specs.CheckAnswers.{Answered}
+use Rattle.sheets.proofs.CheckAnswers.{numbered}
 use Rattle.truth.proofs.lines.DecodedKinds.{carried}
 use Rattle.truth.proofs.path.PathTable.{own_questions}
 use Rattle.truth.proofs.path.PathLines.{auto, operation, operated, path-refers, holds-true, list-true}
@@ -46,25 +49,24 @@ rows_fit R rules =
     let t : T (leb (lines R) lines_most) = search (and_right, (rule-answers lent R rules).seven) in
     omega (arith, leb→le (lines R) lines_most t)
 
--- q is the number of the first "no"
-module _ (M R : List ℕ) (j s room q : ℕ) (e : q ≡ (first_no (path_questions M R j s room)).number) where
-  own-sheeted : Sheeted (own_questions M R j s room)
-  unfolding sheet_of indicator
-  own-sheeted = omega arith
+-- a check that did not answer with a refusal found none
+pub passed : {questions : List Question} {r : Result (Unit {0}) Refusal} → Answered questions r → ((refusal : Refusal) → r ≡ Err refusal → ⊥)
+    → no_refusal ≡ first_no questions
+passed {r = Ok a} said other = said.refusal
+passed {r = Err refusal} said other = absurd (other refusal refl)
 
-  pub refused : (i : ℕ) (list names : List ℕ) → (q ≡ 0 → ⊥) → i ≡ sheet_of q → MadeFor M R j s room list names (Refused q i)
-  unfolding refusal_of MadePath path_questions
-  refused i list names n f =
-      record { refusal = rw f (call-refused M R (own_questions M R j s room) own-sheeted q e n); made = omega arith }
+module _ (M R : List ℕ) (j s room : ℕ) where
+  -- the call is refused
+  pub refused : (refusal : Refusal) (list names : List ℕ) → refusal_of {A = Unit {0}} (Err refusal) ≡ first_no (path_questions M R j s room)
+      → MadeFor M R j s room list names (Err refusal)
+  unfolding MadePath
+  refused refusal list names e = record { refusal = e; made = omega (arith, numbered refusal) }
 
-  module _ (z : q ≡ 0) where
-    none-asked : no_refusal ≡ first_no (path_questions M R j s room)
-    unfolding path_questions
-    none-asked = call_none M R (own_questions M R j s room) own-sheeted (sym z ∙ e)
-
+  -- nothing is
+  module _ (none-asked : no_refusal ≡ first_no (path_questions M R j s room)) where
     accepted : BothAccepted M R × AllYes (own_questions M R j s room)
-    unfolding path_questions
-    accepted = call-accepted M R (own_questions M R j s room) (sym z ∙ e)
+    unfolding path_questions no_refusal
+    accepted = call-accepted M R (own_questions M R j s room) (ap (λ (r : Questions.Refusal). r.number) none-asked)
 
     pub machine-accepted : machine_refusal M ≡ 0
     machine-accepted = accepted.0.machine
@@ -91,11 +93,11 @@ module _ (M R : List ℕ) (j s room q : ℕ) (e : q ≡ (first_no (path_question
       unfolding q19
       room-enough = rw ek (leb→le _ room accepted.1.1.0)
 
-      -- the rows are those of the lines above it, p is the line that it is, and op its operation
-      module _ (before rows : List ℕ) (written : RowsTo M R (k - 1) before rows) (p : PathLine) (op : ℕ) (ep : p ≡ path_line (line_word lent R k operand_place) (argument R k))
-          (eo : op ≡ line_word lent R k operation_place) (exchanged : Bool) (ee : eqb op some_path_not_operation ≡ exchanged) where
+      -- the rows are those of the lines above it, and p is the line that it is
+      module _ (before rows : List ℕ) (written : RowsTo M R (k - 1) before rows) (p : PathLine) (ep : p ≡ path_line (line_word lent R k operand_place) (argument R k))
+          (exchanged : Bool) (ee : eqb (line_word lent R k operation_place) some_path_not_operation ≡ exchanged) where
         kind : line_word lent R k operation_place ≡ operation exchanged
-        kind = rw (← ee, eo) (operated (line_word lent R k operation_place) path-line)
+        kind = rw (← ee) (operated (line_word lent R k operation_place) path-line)
 
         ex : p.automaton ≡ line_word lent R k operand_place
         ex = rw ep
@@ -144,17 +146,17 @@ module _ (M R : List ℕ) (j s room q : ℕ) (e : q ≡ (first_no (path_question
               ),
             )
 
-        pub shown : (list names : List ℕ) (answer : Shown) → ShowsLine M R rows (argument_of p) p.automaton exchanged s list names answer → MadeFor M R j s room list names answer
-        unfolding ShowsLine refusal_of MadePath
-        shown list names (Refused q i) said = absurd said
-        shown list names NoPath said = record { refusal = none-asked; made = λ t. said (line-holds.1 (rw ek t)) }
-        shown list names (Path l b) said = record {
+        pub shown : (list names : List ℕ) (answer : Answer) → ShowsLine M R rows (argument_of p) p.automaton exchanged s list names answer → MadeFor M R j s room list names answer
+        unfolding ShowsLine MadePath
+        shown list names (Err refusal) said = absurd said
+        shown list names (Ok None) said = record { refusal = none-asked; made = λ t. said (line-holds.1 (rw ek t)) }
+        shown list names (Ok (Some path)) said = record {
           refusal = none-asked;
           made = (
             rw (← ek) (line-holds.0 said.0),
             rw (← ek)
                 (list-true M R machine-accepted rules-accepted k line-in.0 line-in.1 exchanged kind before rows written (argument_of p) same s node_in.0 node_in.1
-                (placed list) (placed names) l b (rw ex at said.1)),
+                (placed list) (placed names) path.length path.back (rw ex at said.1)),
             omega (arith, rw ex at said.2, room-enough),
           );
         }

@@ -9,6 +9,7 @@ use mathlib.Core.List.{List}
 use mathlib.Core.Bool.{Bool, true, false}
 use lib.ListN.{get_or}
 use lib.Dec.{T}
+use Rattle.std.specs.Prelude.{Some, None, Ok}
 use Rattle.sheets.specs.Format.{nodes_most}
 use Rattle.sheets.specs.Machine.{nodes, kripke}
 use Rattle.sheets.specs.Rules.{lent, automaton}
@@ -24,7 +25,6 @@ use Rattle.truth.specs.Lists.{Lasso}
 use Rattle.truth.specs.inner.OneLine.{PathReady, Holds, SolvedLine}
 use Rattle.truth.specs.inner.Trails.{Looped, Traceable, placed}
 use Rattle.truth.specs.inner.Shows.{ShowsLine}
-use Rattle.truth.specs.declared.path.Shown.TheVariants.{NoPath, Path}
 use Rattle.truth.proofs.NamedPaths.{good-named, lasso-named}
 use Rattle.truth.proofs.lines.PathRows.{path-sound, states-few, allow-up, lasting-up, some-state, path-row-of}
 use Rattle.truth.proofs.lines.LineSolved.{lasso}
@@ -37,7 +37,7 @@ module _ {M R next back rows : List ℕ} {arg : ℕ → ℕ} {x : ℕ} (path : P
   has-holds : T b ↔ Holds M R rows arg x exchanged s
   has-holds = rw eb ((path-row-of path solved el eh).truth s lo hi)
 
-  pub none-shown : b ≡ false → (list names : List ℕ) → ShowsLine M R rows arg x exchanged s list names NoPath
+  pub none-shown : b ≡ false → (list names : List ℕ) → ShowsLine M R rows arg x exchanged s list names (Ok None)
   unfolding ShowsLine
   none-shown n list names h = subst T n (has-holds.1 h)
 
@@ -81,7 +81,7 @@ module _ {M R next back rows : List ℕ} {arg : ℕ → ℕ} {x : ℕ} (path : P
           (rw (counted, counts) at walk)
 
       pub shows-line : (numbers names : List ℕ) → ((k : ℕ) → k < state_count R x → get_or numbers k 0 ≡ state_of R x (k + 1))
-          → ((i : ℕ) → i < len → get_or names i 0 ≡ get_or numbers (get_or positions i 0) 0) → ShowsLine M R rows arg x exchanged s list names (Path len turn)
+          → ((i : ℕ) → i < len → get_or names i 0 ≡ get_or numbers (get_or positions i 0) 0) → ShowsLine M R rows arg x exchanged s list names (Ok (Some (record { length = len; back = turn })))
       unfolding ShowsLine
       shows-line numbers names numbers_is names_is = (
         has-holds.0 had,

@@ -6,6 +6,7 @@ use native.Mathlib.Omega.{arith}
 use mathlib.Core.List.{List, ◌++◌}
 use mathlib.Core.Bool.{not}
 use lib.ListN.{length, take, drop}
+use Rattle.std.specs.Prelude.{Some, None, Ok, Err}
 use Rattle.sheets.specs.Words.{word}
 use Rattle.sheets.specs.Structures.{Kripke, Automaton, Line, signal, negation, either, some_path, some_path_not, malformed}
 use Rattle.sheets.specs.Machine.{kripke}
@@ -14,10 +15,8 @@ use Rattle.truth.specs.Sizes.{pairs_most}
 use Rattle.truth.specs.Truth.{Truths, TrueAt}
 use Rattle.truth.specs.inner.Trails.{placed}
 use Rattle.truth.specs.Path.{asked, Shows, ShowsPath, ShownPath}
-use Rattle.truth.specs.PathAnswers.{length_of, Leaves, PathAnswer}
+use Rattle.truth.specs.PathAnswers.{Answer, length_of, Leaves, PathAnswer}
 use Rattle.truth.specs.inner.Made.{MadePath, MadeFor}
-use Rattle.truth.specs.declared.path.Shown.{Shown}
-use Rattle.truth.specs.declared.path.Shown.TheVariants.{Refused, NoPath, Path}
 use Rattle.truth.proofs.path.PathTable.{room_most}
 use Rattle.truth.proofs.path.SameLists.{lasso-same}
 use Rattle.truth.proofs.path.WrittenLists.{written-length, written-here, written-rest}
@@ -42,11 +41,11 @@ module _ (node state node' state' : ℕ → ℕ) (len back : ℕ) (nodes : (i : 
 
 module _ (M R : List ℕ) (j s room : ℕ) (nodes states : List ℕ) where
   -- as many places as the answer fills are there
-  pub count_most : (count : ℕ) (answer : Shown) → MadeFor M R j s room nodes states answer → count ≡ length_of answer → count ≤ room
-  unfolding length_of MadePath
-  count_most count (Refused q i) m e = omega arith
-  count_most count NoPath m e = omega arith
-  count_most count (Path l b) m e = omega (arith, m.made.2)
+  pub count_most : (count : ℕ) (answer : Answer) → MadeFor M R j s room nodes states answer → count ≡ length_of answer → count ≤ room
+  unfolding MadePath
+  count_most count (Err refusal) m e = omega arith
+  count_most count (Ok None) m e = omega arith
+  count_most count (Ok (Some shown)) m e = omega (arith, m.made.2)
 
   -- it is written over the first words of two lent lists
   module _ (nodes_before states_before nodes_after states_after : List ℕ) (roomy : room ≡ min (min (length nodes_before) (length states_before)) pairs_most)
@@ -71,15 +70,15 @@ module _ (M R : List ℕ) (j s room : ℕ) (nodes states : List ℕ) where
           rest-states = λ i h. rw es (written-rest states states_before l (omega arith) (omega arith) i h);
         }
 
-    leaves : (answer : Shown) → MadePath M R j s room nodes states answer → nodes_after ≡ take (length_of answer) nodes ++ drop (length_of answer) nodes_before
+    leaves : (answer : Answer) → MadePath M R j s room nodes states answer → nodes_after ≡ take (length_of answer) nodes ++ drop (length_of answer) nodes_before
         → states_after ≡ take (length_of answer) states ++ drop (length_of answer) states_before
         → Leaves M R j s nodes_before states_before nodes_after states_after answer
-    unfolding MadePath Leaves length_of
-    leaves (Refused q i) m en es = (m, en, es)
-    leaves NoPath m en es = (m, en, es)
-    leaves (Path l b) m en es = (m.0, shown-path l b m.1 m.2 en es)
+    unfolding MadePath Leaves
+    leaves (Err refusal) m en es = (m, en, es)
+    leaves (Ok None) m en es = (m, en, es)
+    leaves (Ok (Some shown)) m en es = (m.0, shown-path shown.length shown.back m.1 m.2 en es)
 
-    pub answered : (count : ℕ) (answer : Shown) → MadeFor M R j s room nodes states answer → count ≡ length_of answer
+    pub answered : (count : ℕ) (answer : Answer) → MadeFor M R j s room nodes states answer → count ≡ length_of answer
         → nodes_after ≡ take count nodes ++ drop count nodes_before → states_after ≡ take count states ++ drop count states_before
         → PathAnswer M R j s nodes_before states_before nodes_after states_after answer
     answered count answer m e en es = record {

@@ -12,8 +12,9 @@ use Rattle.sheets.proofs.Search.{le-or-gt}
 use Rattle.sheets.proofs.Bits.{odd-or-even, bit-zero, bit-suc, no-bit}
 use Rattle.sheets.proofs.BitLaws.{bit-above}
 use Rattle.truth.specs.Sizes.{row_word_bits, high_first, members_most}
-use Rattle.truth.specs.inner.Rows.{held, Foremost, First, Last}
-use Rattle.truth.proofs.rows.RowLaws.{held_in, held_low, held_high, held-lower, held-upper, held_none}
+use Rattle.truth.specs.declared.rows.Row.{Row}
+use Rattle.truth.specs.inner.Rows.{row_has, Leading}
+use Rattle.truth.proofs.rows.RowLaws.{held_in, held_low, held_high, held-lower, held-upper}
 
 -- ---- of a word
 
@@ -55,62 +56,56 @@ bit-most w j i hi t = ⊎_elim (λ l. l) (λ l. absurd (rw (bit-above (suc j) w 
 
 -- ---- of a row
 
-module _ (a b : ℕ) where
+module _ (r : Row) where
   -- a node stands in the lower or in the upper word
-  by_word : (s : ℕ) → T (held a b s) → ((1 ≤ s) × (s ≤ row_word_bits) × T (bit a (s - 1))) ⊎ ((row_word_bits < s) × T (bit b (s - high_first)))
+  by_word : (s : ℕ) → T (row_has r s) → ((1 ≤ s) × (s ≤ row_word_bits) × T (bit r.low (s - 1))) ⊎ ((row_word_bits < s) × T (bit r.high (s - high_first)))
   by_word s t =
-      let r = held_in a b s t in
-      ⊎_elim (λ l. inl (r.0, l, rw (held_low a b s r.0 l) at t)) (λ l. inr (l, rw (held_high a b s l r.1) at t)) (le-or-gt s row_word_bits)
+      let i = held_in r.low r.high s t in
+      ⊎_elim (λ l. inl (i.0, l, rw (held_low r.low r.high s i.0 l) at t)) (λ l. inr (l, rw (held_high r.low r.high s l i.1) at t)) (le-or-gt s row_word_bits)
 
-  pub found_none : {before : ℕ → ℕ → Type 0} → a ≡ 0 → b ≡ 0 → Foremost before (held a b) 0
-  found_none e f = record {
-    found = λ n. absurd (n refl);
-    none = λ z s. rw (e, f, held_none s);
-    others = λ s t. absurd (rw (e, f, held_none s) at t);
-  }
+  -- one of 1 to 128, for it is in the row
+  leading : {before : ℕ → ℕ → Type 0} (u : ℕ) → row_has r u ≡ true → ((s : ℕ) → T (row_has r s) → before u s) → Leading before r u
+  leading u e others =
+      let t : T (row_has r u) = rw e tt in
+      let i = held_in r.low r.high u t in
+      record { is_in = t; from = i.0; to = i.1; others = others }
 
   -- the bits of the word w stand for the nodes from o on
-  module _ (w o : ℕ) (from : 1 ≤ o) (is : (k : ℕ) → k < row_word_bits → held a b (k + o) ≡ bit w k) (some : 0 < w) (small : w < 2 ^ row_word_bits) where
+  module _ (w o : ℕ) (is : (k : ℕ) → k < row_word_bits → row_has r (k + o) ≡ bit w k) (some : 0 < w) (small : w < 2 ^ row_word_bits) where
     -- every other node comes after them, or is one of them
-    first-at : ((s : ℕ) → T (held a b s) → (o + row_word_bits ≤ s) ⊎ ((o ≤ s) × T (bit w (s - o)))) → First (held a b) (count_trailing_zeros row_word_bits w % row_word_bits + o)
+    first-at : ((s : ℕ) → T (row_has r s) → (o + row_word_bits ≤ s) ⊎ ((o ≤ s) × T (bit w (s - o)))) → Leading (λ u s. u ≤ s) r (count_trailing_zeros row_word_bits w % row_word_bits + o)
     first-at nodes =
-        let r = lowest row_word_bits w some small in
+        let l = lowest row_word_bits w some small in
         let k = count_trailing_zeros row_word_bits w in
-        let e : k % row_word_bits ≡ k = omega (arith, r.below) in
-        rw e (record {
-          found = λ n. is k r.below ∙ r.is_set;
-          none = λ z. absurd (omega arith);
-          others = λ s t. ⊎_elim (λ l. omega (arith, r.below)) (λ l. omega (arith, r.least (s - o) l.1, l.0)) (nodes s t);
-        })
+        let e : k % row_word_bits ≡ k = omega (arith, l.below) in
+        rw e (leading (k + o) (is k l.below ∙ l.is_set)
+        (λ s t. ⊎_elim (λ h. omega (arith, l.below)) (λ h. omega (arith, l.least (s - o) h.1, h.0)) (nodes s t)))
 
     -- every other node comes before them, or is one of them
-    last-at : (n : ℕ) → n ≡ o + (row_word_bits - 1) → ((s : ℕ) → T (held a b s) → (s < o) ⊎ ((o ≤ s) × T (bit w (s - o)))) → Last (held a b) (n - count_leading_zeros row_word_bits w % row_word_bits)
+    last-at : (n : ℕ) → n ≡ o + (row_word_bits - 1) → ((s : ℕ) → T (row_has r s) → (s < o) ⊎ ((o ≤ s) × T (bit w (s - o)))) → Leading (λ u s. s ≤ u) r (n - count_leading_zeros row_word_bits w % row_word_bits)
     last-at n q nodes =
         let t = leading_top row_word_bits w some small in
         let j = t.0 in
         let few : j < row_word_bits = omega (arith, t.1) in
         let e : n - count_leading_zeros row_word_bits w % row_word_bits ≡ j + o = omega (arith, t.1) in
-        rw e (record {
-          found = λ m. is j few ∙ bit-top w j t.2 t.3;
-          none = λ z. absurd (omega arith);
-          others = λ s u. ⊎_elim (λ l. omega arith) (λ l. omega (arith, bit-most w j (s - o) t.3 l.1, l.0)) (nodes s u);
-        })
+        rw e (leading (j + o) (is j few ∙ bit-top w j t.2 t.3)
+        (λ s u. ⊎_elim (λ l. omega arith) (λ l. omega (arith, bit-most w j (s - o) t.3 l.1, l.0)) (nodes s u)))
 
-  pub first-low : 0 < a → a < 2 ^ row_word_bits → First (held a b) (count_trailing_zeros row_word_bits a % row_word_bits + 1)
+  pub first-low : 0 < r.low → r.low < 2 ^ row_word_bits → Leading (λ u s. u ≤ s) r (count_trailing_zeros row_word_bits r.low % row_word_bits + 1)
   first-low some small =
-      first-at a 1 (omega arith) (held-lower a b) some small (λ s t. ⊎_elim (λ l. inr (l.0, l.2)) (λ h. inl (omega (arith, h.0))) (by_word s t))
+      first-at r.low 1 (held-lower r.low r.high) some small (λ s t. ⊎_elim (λ l. inr (l.0, l.2)) (λ h. inl (omega (arith, h.0))) (by_word s t))
 
-  pub first-high : a ≡ 0 → 0 < b → b < 2 ^ row_word_bits → First (held a b) (count_trailing_zeros row_word_bits b % row_word_bits + high_first)
+  pub first-high : r.low ≡ 0 → 0 < r.high → r.high < 2 ^ row_word_bits → Leading (λ u s. u ≤ s) r (count_trailing_zeros row_word_bits r.high % row_word_bits + high_first)
   first-high e some small =
-      first-at b high_first (omega arith) (held-upper a b) some small
+      first-at r.high high_first (held-upper r.low r.high) some small
       (λ s t. ⊎_elim (λ l. absurd (no-bit (s - 1) (rw e at l.2))) (λ h. inr (omega (arith, h.0), h.1)) (by_word s t))
 
-  pub last-low : b ≡ 0 → 0 < a → a < 2 ^ row_word_bits → Last (held a b) (row_word_bits - count_leading_zeros row_word_bits a % row_word_bits)
+  pub last-low : r.high ≡ 0 → 0 < r.low → r.low < 2 ^ row_word_bits → Leading (λ u s. s ≤ u) r (row_word_bits - count_leading_zeros row_word_bits r.low % row_word_bits)
   last-low e some small =
-      last-at a 1 (omega arith) (held-lower a b) some small row_word_bits refl
+      last-at r.low 1 (held-lower r.low r.high) some small row_word_bits refl
       (λ s t. ⊎_elim (λ l. inr (l.0, l.2)) (λ h. absurd (no-bit (s - high_first) (rw e at h.1))) (by_word s t))
 
-  pub last-high : 0 < b → b < 2 ^ row_word_bits → Last (held a b) (members_most - count_leading_zeros row_word_bits b % row_word_bits)
+  pub last-high : 0 < r.high → r.high < 2 ^ row_word_bits → Leading (λ u s. s ≤ u) r (members_most - count_leading_zeros row_word_bits r.high % row_word_bits)
   last-high some small =
-      last-at b high_first (omega arith) (held-upper a b) some small members_most refl
+      last-at r.high high_first (held-upper r.low r.high) some small members_most refl
       (λ s t. ⊎_elim (λ l. inl (omega (arith, l.1))) (λ h. inr (omega (arith, h.0), h.1)) (by_word s t))

@@ -5,7 +5,7 @@ use mathlib.Core.Logic.{⊎_elim}
 use Prim.Native.Nat.{ℕ, zero, suc, ◌+◌, ◌-◌, ◌*◌, ◌%◌, ◌^◌, ◌≤◌, ◌<◌}
 use native.Mathlib.Nat.{add-zero, add-suc}
 use native.Mathlib.Omega.{arith}
-use mathlib.Core.Bool.{Bool, true, false, not, ◌&&◌, ◌||◌, or-false, true≢false}
+use mathlib.Core.Bool.{Bool, true, false, not, ◌&&◌, ◌||◌, true≢false}
 use borrow.Author.Tests.{le-leb, lt-leb, eq-eqb, ne_eqb}
 use lib.Dec.{T, T_not, not_T, leb, eqb, eqb→eq}
 use lib.Count.{ones}
@@ -128,9 +128,6 @@ module _ (a b s i : ℕ) where
       let more = with-one 0 (2 ^ (s - high_first)) (omega arith) hi (λ k l. bit-none k ∙ sym (ne_eqb (k + 1) s (λ q. omega arith)))
       (λ k l. bit-power (s - high_first) k ∙ shift-eqb k high_first s (omega arith)) in
       rw (one_shifted row_word_bits (s - high_first) (omega arith)) (rw (or_zero_r a) at more)
-
-  pub with_out : within 1 members_most s ≡ false → held a b i ≡ (held a b i || (within 1 members_most s && eqb i s))
-  with_out e = rw e (sym (or-false (held a b i)))
 
 -- ---- a row with nothing in it, and one with something
 

@@ -13,20 +13,8 @@ use Rattle.sheets.proofs.Tests.{and_left, and_right, and_both, or_left, or_right
 use Rattle.sheets.proofs.Search.{within_in}
 use Rattle.sheets.proofs.Counting.{number, number-strict}
 use Rattle.truth.specs.Sizes.{row_words, members_most}
-use Rattle.truth.specs.inner.Rows.{held, rows_has, Foremost}
+use Rattle.truth.specs.inner.Rows.{held, rows_has}
 use Rattle.truth.specs.inner.Pairs.{Before}
-use Rattle.truth.proofs.rows.RowLaws.{held_in}
-
--- ---- a node found
-module _ {before : ℕ → ℕ → Type 0} (p : ℕ → Bool) (r : ℕ) (f : Foremost before p r) where
-  pub none_left : r ≡ 0 → (s : ℕ) → T (p s) → ⊥
-  none_left e s t = rw (f.none e s) at t
-
-  pub one_left : (r ≡ 0 → ⊥) → T (p r)
-  one_left n = rw (f.found n) tt
-
-pub one-within : {before : ℕ → ℕ → Type 0} (a b r : ℕ) → Foremost before (held a b) r → (r ≡ 0 → ⊥) → (1 ≤ r) × (r ≤ members_most)
-one-within a b r f n = held_in a b r (one_left (held a b) r f n)
 
 -- ---- a node taken out
 

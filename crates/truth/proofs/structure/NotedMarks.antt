@@ -23,9 +23,6 @@ pub record Noted (mark : List ℕ) (next left out : ℕ → Bool) : Type 0 where
   pub noted : (t : ℕ) → T (next t) → T (within 1 members_most (get_or mark t 0)) → T (left t) ⊎ T (out (get_or mark t 0))
 
 module _ (mark : List ℕ) (next : ℕ → Bool) where
-  pub noted-none : (out : ℕ → Bool) → ((e : ℕ) → out e ≡ false) → Noted mark next next out
-  noted-none out n = record { fewer = λ t x. x; found = λ e x. absurd (rw (n e) at x); noted = λ t x w. inl x }
-
   pub noted-next : (left left' out out' : ℕ → Bool) (u : ℕ) → Noted mark next left out → T (left u) → Less left u left'
       → ((e : ℕ) → out' e ≡ (out e || (within 1 members_most (get_or mark u 0) && eqb e (get_or mark u 0)))) → Noted mark next left' out'
   noted-next left left' out out' u g l less more = record {

@@ -1,5 +1,5 @@
 -- Rows: a set of nodes, from 1, in two words, node s at bit s - 1 of both together.
-use Rattle.std.specs.Prelude.{◌≡◌, ℕ, zero, suc, ◌+◌, ◌-◌, ◌≤◌, Bool, true, false, ◌&&◌, List, get_or, T, leb, eqb}
+use Rattle.std.specs.Prelude.{◌≡◌, ℕ, zero, suc, ◌+◌, ◌-◌, ◌≤◌, Bool, true, false, ◌&&◌, not, List, get_or, T, leb, eqb, Option, MatchOption}
 use Rattle.sheets.specs.Words.{bit, within, indicator, any_of}
 use Rattle.sheets.specs.Machine.{edges_of, target}
 use Rattle.truth.specs.Sizes.{row_word_bits, high_first, members_most, low_at, high_at}
@@ -37,16 +37,32 @@ unfoldable pub marks_into : List ℕ → List ℕ → ℕ → ℕ → Bool
 unfolding leads_into
 marks_into M mark s e = within 1 members_most e && leads_into M (λ t. within 1 members_most t && eqb (get_or mark t 0) e) s
 
--- of the numbers that pass r is the one before all others in an order, or 0 where none passes
-pub record Foremost (before : ℕ → ℕ → Type 0) (p : ℕ → Bool) (r : ℕ) : Type 0 where
-  pub found : (r ≡ 0 → ⊥) → p r ≡ true
-  pub none : r ≡ 0 → (s : ℕ) → p s ≡ false
-  pub others : (s : ℕ) → T (p s) → before r s
+-- node u of the row comes in an order before all others of the row
+pub record Leading (before : ℕ → ℕ → Type 0) (r : Row) (u : ℕ) : Type 0 where
+  pub is_in : T (row_has r u)
+  pub from : 1 ≤ u
+  pub to : u ≤ members_most
+  pub others : (s : ℕ) → T (row_has r s) → before u s
 
--- the lowest
-abbrev pub First : (ℕ → Bool) → ℕ → Type 0
-First p r = Foremost (λ r s. r ≤ s) p r
+-- the row has no node
+abbrev pub NoNode : Row → Type 0
+NoNode r = (s : ℕ) → T (row_has r s) → ⊥
 
--- the highest
-abbrev pub Last : (ℕ → Bool) → ℕ → Type 0
-Last p r = Foremost (λ r s. s ≤ r) p r
+-- the lowest node of the row, or None where it has none, and the highest
+abbrev pub Lowest : Row → Option ℕ → Type 0
+Lowest r o = MatchOption o (NoNode r) (λ u. Leading (λ u s. u ≤ s) r u)
+
+abbrev pub Highest : Row → Option ℕ → Type 0
+Highest r o = MatchOption o (NoNode r) (λ u. Leading (λ u s. s ≤ u) r u)
+
+-- u is the first node of row r in an order, and row t is r without it
+pub record Taken (before : ℕ → ℕ → Type 0) (r : Row) (u : ℕ) (t : Row) : Type 0 where
+  pub first : Leading before r u
+  pub less : (i : ℕ) → row_has t i ≡ (row_has r i && not (eqb i u))
+
+-- the lowest node of row r is taken, which leaves row t; or it has none. And the highest
+abbrev pub TakesLowest : Row → Option ℕ → Row → Type 0
+TakesLowest r o t = MatchOption o (NoNode r × (t ≡ r)) (λ u. Taken (λ u s. u ≤ s) r u t)
+
+abbrev pub TakesHighest : Row → Option ℕ → Row → Type 0
+TakesHighest r o t = MatchOption o (NoNode r × (t ≡ r)) (λ u. Taken (λ u s. s ≤ u) r u t)

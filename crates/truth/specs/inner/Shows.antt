@@ -1,5 +1,5 @@
 -- The list that is made for one path line from the rows above it.
-use Rattle.std.specs.Prelude.{ℕ, ◌*◌, ◌≤◌, List, Bool}
+use Rattle.std.specs.Prelude.{ℕ, ◌*◌, ◌≤◌, List, Bool, Some, None, Ok, Err}
 use Rattle.sheets.specs.Machine.{nodes, kripke}
 use Rattle.sheets.specs.Rules.{automaton}
 use Rattle.sheets.specs.Positioned.{state_count}
@@ -8,15 +8,14 @@ use Rattle.truth.specs.Lists.{Lasso}
 use Rattle.truth.specs.inner.Product.{good}
 use Rattle.truth.specs.inner.OneLine.{Holds}
 use Rattle.truth.specs.inner.Trails.{placed}
-use Rattle.truth.specs.declared.path.Shown.{Shown}
-use Rattle.truth.specs.declared.path.Shown.TheVariants.{Refused, NoPath, Path}
+use Rattle.truth.specs.PathAnswers.{Answer}
 
 -- What is said of a path line of automaton x at node s, by the bits of the rows of its argument lines: no path where none exists; otherwise the list of nodes and states
 -- shows one.
-unfoldable pub ShowsLine : List ℕ → List ℕ → List ℕ → (ℕ → ℕ) → ℕ → Bool → ℕ → List ℕ → List ℕ → Shown → Type 0
-ShowsLine M R rows arg x exchanged s list names (Refused q i) = ⊥
-ShowsLine M R rows arg x exchanged s list names NoPath = Holds M R rows arg x exchanged s → ⊥
-ShowsLine M R rows arg x exchanged s list names (Path l b) =
+unfoldable pub ShowsLine : List ℕ → List ℕ → List ℕ → (ℕ → ℕ) → ℕ → Bool → ℕ → List ℕ → List ℕ → Answer → Type 0
+ShowsLine M R rows arg x exchanged s list names (Err refusal) = ⊥
+ShowsLine M R rows arg x exchanged s list names (Ok None) = Holds M R rows arg x exchanged s → ⊥
+ShowsLine M R rows arg x exchanged s list names (Ok (Some shown)) =
     Holds M R rows arg x exchanged s
-    × Lasso (kripke M) (automaton R x) (row_truths rows) arg (good exchanged (automaton R x)) s (placed list) (placed names) l b
-    × (l ≤ nodes M * state_count R x)
+    × Lasso (kripke M) (automaton R x) (row_truths rows) arg (good exchanged (automaton R x)) s (placed list) (placed names) shown.length shown.back
+    × (shown.length ≤ nodes M * state_count R x)

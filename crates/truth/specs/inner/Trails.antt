@@ -1,5 +1,5 @@
 -- A list of pairs that shows a path, by positions: the pairs that steps lead through from (0, s), and the place where the last goes back to.
-use Rattle.std.specs.Prelude.{◌≡◌, ℕ, suc, ◌-◌, ◌*◌, ◌≤◌, ◌<◌, List, not, get_or, T}
+use Rattle.std.specs.Prelude.{◌≡◌, ℕ, suc, ◌-◌, ◌*◌, ◌≤◌, ◌<◌, List, Option, IfSome, not, get_or, T}
 use Rattle.sheets.specs.Format.{nodes_most}
 use Rattle.truth.specs.Sizes.{positions_most, table_rows}
 use Rattle.truth.specs.inner.Rows.{rows_has}
@@ -29,6 +29,14 @@ pub record Traceable (allow next : List ℕ) (t n : ℕ) (xs ys times : List ℕ
   pub least : Least allow next t xs ys times
   pub timed : Timed times
   pub found : T (rows_has ys 0 s)
+
+-- the time of a pair is before the one that is told, if one is
+abbrev pub Earlier : List ℕ → Option ℕ → ℕ → ℕ → Type 0
+Earlier times before p s = IfSome before (λ time. time_of times p s < time)
+
+-- so it is of a pair of the set
+abbrev pub Wanted : List ℕ → List ℕ → Option ℕ → ℕ → ℕ → Type 0
+Wanted set times before p s = T (rows_has set p s) × Earlier times before p s
 
 -- (p', u') is the pair after (p, u): one of `xs` after one of `xs`, and otherwise one of `ys` with an earlier time
 pub record Advances (allow next : List ℕ) (t : ℕ) (xs ys times : List ℕ) (p u p' u' : ℕ) : Type 0 where

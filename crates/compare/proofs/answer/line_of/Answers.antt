@@ -1,17 +1,16 @@
--- `line_of` meets its contract: the two fixed lines by computing, the third by `refused`.
-use mathlib.Core.Path.{refl}
-use native.Mathlib.Omega.{arith}
+-- `line_of` meets its contract: a line for each answer.
+use Rattle.std.proofs.Common.{rules}
 use Rattle.compare.specs.Program.{line_bytes}
 use Rattle.compare.proofs.answer.line_of.Goals as goal
 
-pub returns-in-Equal : goal.returns-in-Equal
+pub returns-in-Ok-Equal : goal.returns-in-Ok-Equal
 unfolding line_bytes
-returns-in-Equal c = rw c.in-Equal.is (record { len = refl; fits = omega arith; bytes = refl })
+returns-in-Ok-Equal c = search rules
 
-pub returns-in-Unequal : goal.returns-in-Unequal
+pub returns-in-Ok-Unequal : goal.returns-in-Ok-Unequal
 unfolding line_bytes
-returns-in-Unequal c = rw c.in-Unequal.is (record { len = refl; fits = omega arith; bytes = refl })
+returns-in-Ok-Unequal c = search rules
 
-pub returns-in-Refused : goal.returns-in-Refused
+pub returns-in-Err : goal.returns-in-Err
 unfolding line_bytes
-returns-in-Refused c = rw c.in-Refused.is c.refused.ensures
+returns-in-Err c = search rules

@@ -1,79 +1,75 @@
 -- `compare` meets its contract: the first "no" of the table refuses; else the refinement answers, by the start nodes in its blocks.
-use mathlib.Core.Path.{sym, ◌∙◌}
+use mathlib.Core.Path.{sym}
 use mathlib.Core.Logic.{inl}
 use native.Mathlib.Omega.{arith}
+use Rattle.std.proofs.lemmas.Result.{err_from_is_err_and}
+use Rattle.truth.proofs.Passed.{no_number}
 use Rattle.comparison.specs.inner.Bounded.{Bounded}
 use Rattle.comparison.proofs.CompareAnswers.{refused, known, small, fits, equal-answer, listed, unequal-answer}
 use borrow.Author.Rules.{rules}
 use Rattle.comparison.proofs.compare.compare.Goals as goal
 
-pub returns-then-refusal-ne0 : goal.returns-then-refusal-ne0
-returns-then-refusal-ne0 c =
+pub returns-in_err-check_comparison : goal.returns-in_err-check_comparison
+returns-in_err-check_comparison c =
     let a = c.args in
-    let r = c.compare_refusal-refusal in
-    refused a.m1.now a.m2.now a.space.now _ _ r.ensures.0 r.ensures.1 c.if-refusal-ne0.true
+    let p = err_from_is_err_and c.from_residual.result c.from_residual.ensures.1 in
+    rw (p.1, p.2) (refused a.m1.now a.m2.now a.space.now c.in_err-check_comparison.field-0.0 c.in_err-check_comparison.ensures.refusal)
 
-pub refine-p-requires : goal.refine-p-requires
+pub refine-partition-requires : goal.refine-partition-requires
 unfolding Bounded
-refine-p-requires c =
+refine-partition-requires c =
     let a = c.args in
-    let e = sym c.if-refusal-ne0.false ∙ c.compare_refusal-refusal.ensures.0 in
+    let e = sym (no_number _ c.in_ok-check_comparison.ensures.refusal) in
     let k = known a.m1.now a.m2.now a.space.now e in
-    (k.first, k.second, inl k.few)
+    record { accepted1 = k.first; accepted2 = k.second; bounded = inl k.few }
 
-pub one_sided-c-requires : goal.one_sided-c-requires
-one_sided-c-requires c =
+pub one_sided-requires : goal.one_sided-requires
+one_sided-requires c =
     let a = c.args in
-    let e = sym c.if-refusal-ne0.false ∙ c.compare_refusal-refusal.ensures.0 in
+    let e = sym (no_number _ c.in_ok-check_comparison.ensures.refusal) in
     let k = small a.m1.now a.m2.now a.space.now e in
-    let f = fits a.m1.now a.m2.now a.space.now e c.refine-p.result c.refine-p.ensures in
-    (k.0, k.1, omega arith)
+    let f = fits a.m1.now a.m2.now a.space.now e c.refine-partition.result c.refine-partition.ensures in
+    record { nodes1 = k.0; nodes2 = k.1; few = omega arith }
 
-pub returns-then-none : goal.returns-then-none
-returns-then-none c =
+pub returns-in-None : goal.returns-in-None
+returns-in-None c =
     let a = c.args in
-    let e = sym c.if-refusal-ne0.false ∙ c.compare_refusal-refusal.ensures.0 in
-    let r = c.refine-p in
-    let s = c.one_sided-c in
-    equal-answer a.m1.now a.m2.now a.space.now e r.result r.ensures s.result s.ensures c.if-none.true
+    let e = sym (no_number _ c.in_ok-check_comparison.ensures.refusal) in
+    let r = c.refine-partition in
+    equal-answer a.m1.now a.m2.now a.space.now e r.result r.ensures c.in-None.ensures
 
-pub bounds-p-c : goal.bounds-p-c
-bounds-p-c c =
+pub bounds-partition-c : goal.bounds-partition-c
+bounds-partition-c c =
     let a = c.args in
-    let e = sym c.if-refusal-ne0.false ∙ c.compare_refusal-refusal.ensures.0 in
-    let r = c.refine-p in
+    let e = sym (no_number _ c.in_ok-check_comparison.ensures.refusal) in
+    let r = c.refine-partition in
     let f = fits a.m1.now a.m2.now a.space.now e r.result r.ensures in
-    omega (arith, c.one_sided-c.ensures.high)
+    omega (arith, c.in-Some.ensures.0)
 
-pub write_not-requires : goal.write_not-requires
-write_not-requires c =
+pub push-requires : goal.push-requires
+push-requires c =
     let a = c.args in
-    let e = sym c.if-refusal-ne0.false ∙ c.compare_refusal-refusal.ensures.0 in
-    let r = c.refine-p in
-    let f = fits a.m1.now a.m2.now a.space.now e r.result r.ensures in
-    (f.2, search rules)
-
-pub overflow_add-n : goal.overflow_add-n
-overflow_add-n c =
-    let a = c.args in
-    let e = sym c.if-refusal-ne0.false ∙ c.compare_refusal-refusal.ensures.0 in
-    let r = c.refine-p in
-    let f = fits a.m1.now a.m2.now a.space.now e r.result r.ensures in
-    omega (arith, f.2)
+    let e = sym (no_number _ c.in_ok-check_comparison.ensures.refusal) in
+    let r = c.refine-partition in
+    (fits a.m1.now a.m2.now a.space.now e r.result r.ensures).2
 
 pub put_sheet-requires : goal.put_sheet-requires
 put_sheet-requires c =
     let a = c.args in
-    let e = sym c.if-refusal-ne0.false ∙ c.compare_refusal-refusal.ensures.0 in
-    let r = c.refine-p in
-    let s = c.one_sided-c in
+    let e = sym (no_number _ c.in_ok-check_comparison.ensures.refusal) in
+    let r = c.refine-partition in
     let f = fits a.m1.now a.m2.now a.space.now e r.result r.ensures in
-    (omega (arith, f.1), omega arith, omega (arith, f.2), listed a.m1.now a.m2.now a.space.now e r.result r.ensures s.result s.ensures c.if-none.false _ (search rules) c.write_not.ensures)
+    let pushed = c.push.ensures.pushed in
+    record {
+      fits = omega (arith, f.1, pushed.count);
+      some = omega (arith, pushed.count);
+      few = omega (arith, f.2, pushed.count);
+      listed = listed a.m1.now a.m2.now a.space.now e r.result r.ensures _ c.in-Some.ensures c.push.new.self (search rules) pushed;
+    }
 
-pub returns : goal.returns
-returns c =
+pub returns-in-Some : goal.returns-in-Some
+returns-in-Some c =
     let a = c.args in
-    let e = sym c.if-refusal-ne0.false ∙ c.compare_refusal-refusal.ensures.0 in
-    let r = c.refine-p in
-    let s = c.one_sided-c in
-    unequal-answer a.m1.now a.m2.now a.space.now e r.result r.ensures s.result s.ensures c.if-none.false _ (search rules) c.write_not.ensures _ c.put_sheet.ensures
+    let e = sym (no_number _ c.in_ok-check_comparison.ensures.refusal) in
+    let r = c.refine-partition in
+    unequal-answer a.m1.now a.m2.now a.space.now e r.result r.ensures _ c.in-Some.ensures c.push.new.self (search rules) c.push.ensures.pushed _ c.put_sheet.ensures

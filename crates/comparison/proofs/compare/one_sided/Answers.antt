@@ -1,30 +1,34 @@
--- `one_sided` meets its contract. The invariant: the blocks below c have a start node of both machines or of neither. The measure is the
--- blocks left.
+-- `one_sided` meets its contract. The invariant: the blocks below c have a start node of both machines or of neither.
+use mathlib.Core.Path.{◌∙◌}
 use native.Mathlib.Omega.{arith}
 use Rattle.truth.specs.inner.Rows.{row_has, rows_has}
-use Rattle.comparison.proofs.StartBlocks.{side-found, side-agrees, side-none}
+use Rattle.comparison.proofs.StartBlocks.{same_test, side-found, side-agrees}
 use Rattle.comparison.proofs.compare.one_sided.Goals as goal
 
 pub loop-c-init : goal.loop-c-init
-loop-c-init c = (omega arith, λ b h. absurd (omega arith))
+loop-c-init c b h = absurd (omega arith)
 
-pub returns-then-has1-has2 : goal.returns-then-has1-has2
-returns-then-has1-has2 c =
+pub returns-then-differ : goal.returns-then-differ
+returns-then-differ c =
     let a = c.args in
+    let p = a.partition.now in
     let one = c.start_row-starts1 in
     let two = c.start_row-starts2 in
-    let at = c.loop-c in
-    side-found a.m1.now a.m2.now (rows_has a.first.now) (rows_has a.second.now) c.requires.0 c.requires.1 (row_has one.result) (row_has two.result) one.ensures two.ensures at.c c.block_has-has1.result c.block_has-has2.result c.block_has-has1.ensures c.block_has-has2.ensures a.count (omega arith) c.if-has1-has2.true
+    let b = c.block-block in
+    side-found a.m1.now a.m2.now (rows_has p.first) (rows_has p.second) c.requires.nodes1 c.requires.nodes2 (row_has one.result) (row_has two.result) one.ensures two.ensures c.loop-c.c
+    c.meets-has1.result c.meets-has2.result (c.meets-has1.ensures ∙ same_test (row_has b.result.first) _ (row_has one.result) b.ensures.first)
+    (c.meets-has2.ensures ∙ same_test (row_has b.result.second) _ (row_has two.result) b.ensures.second) p.count (omega arith) c.if-differ.true
 
 pub loop-c-preserved : goal.loop-c-preserved
 loop-c-preserved c =
     let a = c.args in
+    let p = a.partition.now in
     let one = c.start_row-starts1 in
     let two = c.start_row-starts2 in
-    let at = c.loop-c in
-    (omega arith, side-agrees a.m1.now a.m2.now (rows_has a.first.now) (rows_has a.second.now) c.requires.0 c.requires.1 (row_has one.result) (row_has two.result) one.ensures two.ensures at.c c.block_has-has1.result c.block_has-has2.result c.block_has-has1.ensures c.block_has-has2.ensures c.if-has1-has2.false at.invariant.1)
+    let b = c.block-block in
+    side-agrees a.m1.now a.m2.now (rows_has p.first) (rows_has p.second) c.requires.nodes1 c.requires.nodes2 (row_has one.result) (row_has two.result) one.ensures two.ensures c.loop-c.c
+    c.meets-has1.result c.meets-has2.result (c.meets-has1.ensures ∙ same_test (row_has b.result.first) _ (row_has one.result) b.ensures.first)
+    (c.meets-has2.ensures ∙ same_test (row_has b.result.second) _ (row_has two.result) b.ensures.second) c.if-differ.false c.loop-c.invariant
 
 pub returns : goal.returns
-returns c =
-    let a = c.args in
-    side-none a.m1.now a.m2.now (rows_has a.first.now) (rows_has a.second.now) a.count c.loop-c.c (omega arith) c.loop-c.invariant.1
+returns c b h = c.loop-c.invariant b (omega arith)

@@ -1,49 +1,39 @@
--- `copy_needed` meets its contract. The invariant: the needed lines of 1 to i are copied. The measure is the lines left.
-use mathlib.Core.Path.{◌≡◌, refl, sym, ◌∙◌}
-use Prim.Native.Nat.{◌+◌, ◌≤◌}
-use native.Mathlib.Omega.{arith}
-use lib.ListN.{get_or}
-use Rattle.comparison.proofs.NeededLines.{copied_none, copied-skipped, copied-line}
+-- `copy_needed` meets its contract. The invariant: the needed lines before i are copied.
+use mathlib.Core.Path.{sym, ◌∙◌}
+use Prim.Native.Nat.{◌+◌}
 use borrow.Author.Rules.{rules}
+use native.Mathlib.Omega.{arith}
+use Rattle.comparison.proofs.CopiedLines.{Copying, copying-none, copying-skip, copying-more, copying-end}
 use Rattle.comparison.proofs.needed.copy_needed.Goals as goal
+use Rattle.comparison.proofs.needed.copy_needed.Goals.{Joined-get-ne0, then-get-ne0, else-get-ne0}
 
 pub loop-i-init : goal.loop-i-init
-loop-i-init c = (search rules, search rules, refl, search rules, λ a ls down holds inside stands closed. copied_none a ls c.args.same.now c.args.needed.now _ c.args.out.now down.few (search rules))
+loop-i-init c = record { high = omega arith; copying = copying-none _ _ _ _ _ _ (search rules) (search rules) }
 
-pub loop-i-preserved-then-get-ne0 : goal.loop-i-preserved-then-get-ne0
-loop-i-preserved-then-get-ne0 c =
-    let x = c.args in
+-- what is copied when line i is done
+done : (c : Joined-get-ne0) → Copying c.args.lines.now c.args.j c.args.same.now.places c.args.needed.now.places (c.loop-i.i + 1) c.if-get-ne0.number.places c.if-get-ne0.out
+done c =
     let at = c.loop-i in
-    let wrote = c.write_line in
-    let was = c.get.ensures in
-    let need = c.if-get-ne0.true in (
-      search rules,
-      search rules,
-      c.put.ensures.0,
-      wrote.ensures.size,
-      λ a ls down holds inside stands closed.
-          let here = c.line_at.ensures ls holds (omega arith) in
-          let needed_here : 1 ≤ get_or x.needed.now (at.i + 1) 0 = omega arith in
-          rw c.put.ensures.1
-          (copied-line a ls down x.same.now x.needed.now stands at.i (omega arith) (omega arith) at.number at.out at.count at.invariant.2 (at.invariant.4 a ls down holds inside stands closed)
-          needed_here (closed.each (at.i + 1) (omega arith) (omega arith) needed_here) _ (rw (here, ← c.renumbered-line.ensures) wrote.ensures)),
-    )
+    elim c.if-get-ne0.branch [
+      | then-get-ne0 w ↦
+          let n = w.if-get-ne0.true in
+          rw w.out-is
+          (copying-more _ _ _ _ c.requires.few at.i (omega arith) (omega arith) at.number.places at.out at.invariant.copying (omega (arith, n, c.get.ensures)) _ _ _
+          (λ ls holds inside. w.line.ensures ls holds inside) w.renumbered-line.ensures w.push.ensures.pushed _ (rw (w.number-is, ← w.push.ensures.number) w.put.ensures))
+      | else-get-ne0 w ↦
+          rw (w.out-is, w.number-is)
+          (copying-skip _ _ _ _ c.requires.few at.i (omega arith) (omega arith) at.number.places at.out at.invariant.copying (sym c.get.ensures ∙ w.if-get-ne0.false))
+    ]
 
 pub loop-i-preserved : goal.loop-i-preserved
-loop-i-preserved c =
-    let x = c.args in
-    let at = c.loop-i in (
-      search rules,
-      search rules,
-      at.invariant.2,
-      at.invariant.3,
-      λ a ls down holds inside stands closed.
-          copied-skipped a ls down x.same.now x.needed.now stands at.i (omega arith) (omega arith) at.number at.out at.count at.invariant.2 (at.invariant.4 a ls down holds inside stands closed)
-          (sym c.get.ensures ∙ c.if-get-ne0.false),
-    )
+loop-i-preserved c = record { high = omega arith; copying = done (goal.at.loop-i-preserved c).Joined-get-ne0 }
 
 pub returns : goal.returns
 returns c =
-    let at = c.loop-i in
-    let e : at.i ≡ c.args.j = omega arith in
-    (search rules, at.invariant.3, λ a ls down holds inside stands closed. (at.number, rw e at (at.invariant.4 a ls down holds inside stands closed)))
+    let x = c.loop-i.invariant.copying in
+    record { few = omega (arith, x.few); copied = copying-end _ _ _ _ _ _ _ (omega arith) x }
+
+pub returns-after-get-ne0 : goal.returns-after-get-ne0
+returns-after-get-ne0 c =
+    let x = done (goal.at.returns-after-get-ne0 c).Joined-get-ne0 in
+    record { few = omega (arith, x.few); copied = copying-end _ _ _ _ _ _ _ (omega arith) x }

@@ -3,4 +3,4 @@ use Rattle.comparison.proofs.SettlingBlocks.{partitioned}
 use Rattle.comparison.proofs.refine.refine.Goals as goal
 
 pub returns : goal.returns
-returns c = partitioned _ _ _ c.by_nexts-settled.ensures
+returns c = partitioned _ _ _ c.by_nexts.ensures

@@ -5,8 +5,4 @@ use Rattle.comparison.proofs.signatures.apart.Goals as goal
 
 pub returns : goal.returns
 returns c =
-    let a = c.args in
-    let d = c.difference in
-    let f = c.difference-2 in
-    let u = c.union in
-    tells-apart (row_has a.a) (row_has a.b) (row_has d.result) (row_has f.result) (row_has u.result) d.ensures f.ensures u.ensures c.first.result c.first.ensures
+    tells-apart (row_has c.args.a) (row_has c.args.b) _ _ c.union.result c.difference.ensures c.difference-2.ensures c.union.ensures c.lowest.result c.lowest.ensures

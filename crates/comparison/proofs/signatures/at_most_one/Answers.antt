@@ -5,10 +5,13 @@ use Rattle.truth.proofs.rows.RowLaws.{held_in}
 use Rattle.comparison.proofs.Surveys.{one_only}
 use Rattle.comparison.proofs.signatures.at_most_one.Goals as goal
 
-pub returns : goal.returns
-returns c =
+pub returns-in-None : goal.returns-in-None
+returns-in-None c = record { node = 0; only = λ e s t. absurd (c.in-None.ensures s t) }
+
+pub returns-in-Some : goal.returns-in-Some
+returns-in-Some c =
     let w = c.without in
     record {
-      node = c.first.result;
+      node = c.in-Some.s;
       only = λ e. one_only (row_has c.args.row) (row_has w.result) _ (held_in w.result.low w.result.high) w.ensures (sym c.is_empty.ensures ∙ e);
     }

@@ -7,34 +7,27 @@ use Rattle.comparison.proofs.signatures.splitter.Goals as goal
 
 pub returns-then-alone : goal.returns-then-alone
 returns-then-alone c m₁ m₂ d e₁ e₂ =
-    let a = c.args in
-    mark-alone a.m1.now a.m2.now m₁ m₂ d (row_has a.row1) (row_has a.row2) e₁ e₂ a.mark1.now a.mark2.now (c.alone.ensures c.if-alone.true)
-
-pub unlike-e-requires : goal.unlike-e-requires
-unfolding MarksIn
-unlike-e-requires c =
-    let pre = c.requires in
-    (λ s e i x. pre.0 s e (c.led_by-found.ensures.fewer₁ s i) x, pre.2)
-
-pub returns-then-e-ne0 : goal.returns-then-e-ne0
-returns-then-e-ne0 c m₁ m₂ d e₁ e₂ =
-    let a = c.args in
-    let l = c.led_by-found in
-    unlike-first a.m1.now a.m2.now a.mark1.now a.mark2.now (row_has a.row1) (row_has a.row2) l.result l.ensures m₁ m₂ d e₁ e₂
-    (λ s t. (held_in a.row1.low a.row1.high s t).0) (λ s t. (held_in a.row2.low a.row2.high s t).0)
-    c.unlike-e.result c.if-e-ne0.true c.unlike-e.ensures
+    mark-alone _ _ m₁ m₂ d (row_has c.args.rows.first) (row_has c.args.rows.second) e₁ e₂ _ _ (c.alone.ensures c.if-alone.true)
 
 pub unlike-requires : goal.unlike-requires
 unfolding MarksIn
-unlike-requires c =
-    let pre = c.requires in
-    (λ s e i x. pre.1 s e (c.led_by-found.ensures.fewer₂ s i) x, pre.3)
+unlike-requires c = record { marks = λ s e i x. c.requires.first s e (c.led_by-lead.ensures.fewer₁ s i) x; tailed = c.requires.tailed.first }
 
-pub returns : goal.returns
-returns c m₁ m₂ d e₁ e₂ =
-    let a = c.args in
-    let l = c.led_by-found in
-    let u = c.unlike-e in
-    unlike-second a.m1.now a.m2.now a.mark1.now a.mark2.now (row_has a.row1) (row_has a.row2) l.result l.ensures m₁ m₂ d e₁ e₂
-    (λ s t. (held_in a.row1.low a.row1.high s t).0) (λ s t. (held_in a.row2.low a.row2.high s t).0)
-    c.unlike.result u.result c.if-e-ne0.false u.ensures c.unlike.ensures
+pub returns-in-Some : goal.returns-in-Some
+returns-in-Some c m₁ m₂ d e₁ e₂ =
+    let r = c.args.rows in
+    let l = c.led_by-lead in
+    unlike-first _ _ _ _ (row_has r.first) (row_has r.second) l.result l.ensures m₁ m₂ d e₁ e₂
+    (λ s t. (held_in r.first.low r.first.high s t).0) (λ s t. (held_in r.second.low r.second.high s t).0) c.in-Some.e c.in-Some.ensures
+
+pub unlike-requires-in-None : goal.unlike-requires-in-None
+unfolding MarksIn
+unlike-requires-in-None c = record { marks = λ s e i x. c.requires.second s e (c.led_by-lead.ensures.fewer₂ s i) x; tailed = c.requires.tailed.second }
+
+pub returns-in-None : goal.returns-in-None
+returns-in-None c m₁ m₂ d e₁ e₂ =
+    let r = c.args.rows in
+    let l = c.led_by-lead in
+    let u = c.unlike-in-None in
+    unlike-second _ _ _ _ (row_has r.first) (row_has r.second) l.result l.ensures m₁ m₂ d e₁ e₂
+    (λ s t. (held_in r.first.low r.first.high s t).0) (λ s t. (held_in r.second.low r.second.high s t).0) u.result c.in-None.ensures u.ensures

@@ -1,13 +1,29 @@
 -- `answer_to` meets its contract: refused, or the answer to the two sheets that it lends.
-use mathlib.Core.Path.{refl}
+use Rattle.std.proofs.Common.{refl}
+use Rattle.std.proofs.lemmas.Result.{err_from_is_err_and}
 use Rattle.input.specs.Limits.{machines_words}
 use Rattle.input.proofs.Cuts.{reply-refused, reply-answered}
 use Rattle.explain.proofs.answer.answer_to.Goals as goal
 
-pub returns-then-cut : goal.returns-then-cut
-returns-then-cut c = reply-refused c.sheets_of-cut.ensures machines_words refl c.if-cut.true (c.plain.ensures, refl)
+pub first-requires : goal.first-requires
+first-requires c = (c.sheets_of.ensures.taken _ c.in_ok-cut.was).1.inside
+
+pub second-requires : goal.second-requires
+second-requires c = (c.sheets_of.ensures.taken _ c.in_ok-cut.was).1.inside
+
+pub returns-in_err-cut : goal.returns-in_err-cut
+returns-in_err-cut c =
+    let p = err_from_is_err_and c.from_residual.result c.from_residual.ensures.1 in
+    rw (p.1, p.2) (reply-refused c.sheets_of.ensures machines_words refl c.in_err-cut.was (refl, refl))
+
+pub returns-in_err-answer : goal.returns-in_err-answer
+returns-in_err-answer c =
+    let p = err_from_is_err_and c.from_residual-in_err-answer.result c.from_residual-in_err-answer.ensures.1 in
+    rw (p.1, p.2)
+    (reply-answered c.sheets_of.ensures machines_words refl c.in_ok-cut.was c.first.ensures c.second.ensures
+    (record { call = _; answers = c.in_err-answer.ensures; told = refl }))
 
 pub returns : goal.returns
 returns c =
-    reply-answered c.sheets_of-cut.ensures machines_words refl c.if-cut.false c.first.ensures c.second.ensures
-    c.explain_sheets.ensures
+    reply-answered c.sheets_of.ensures machines_words refl c.in_ok-cut.was c.first.ensures c.second.ensures
+    (record { call = _; answers = c.in_ok-answer.ensures; told = refl })

@@ -1,35 +1,37 @@
 -- `explain_sheets` meets its contract: unequal, the part of the space that it lends is the written rule, whole.
 use mathlib.Core.Path.{sym}
 use lib.Seq.{length-take-le}
-use Rattle.explain.proofs.Explanations.{explained-plain, told-within, told-rule, explained-unequal}
+use Rattle.std.proofs.lemmas.Result.{err_from_is_err_and}
+use Rattle.explain.proofs.Explanations.{explained-refused, explained-equal, told-within, told-rule, explained-unequal}
 use Rattle.explain.proofs.answer.explain_sheets.Goals as goal
 
-pub returns-in_default : goal.returns-in_default
-returns-in_default c =
-    let call = c.compare-answer in
-    explained-plain _ _ _ call.new.space call.result call.ensures _ c.plain.ensures c.in_default.not-Unequal
+pub returns-in_err-answer : goal.returns-in_err-answer
+returns-in_err-answer c =
+    let p = err_from_is_err_and c.from_residual.result c.from_residual.ensures.1 in
+    rw (p.1, p.2) (explained-refused _ _ _ _ _ c.in_err-answer.ensures)
+
+pub returns-in-Equal : goal.returns-in-Equal
+returns-in-Equal c = explained-equal _ _ _ _ (rw c.in-Equal.is at c.in_ok-answer.ensures)
 
 pub slice_bounds-judge-end : goal.slice_bounds-judge-end
 slice_bounds-judge-end c =
-    let call = c.compare-answer in
-    told-within _ _ _ call.new.space call.result call.ensures c.in-Unequal.is c.rule_end-end.result c.rule_end-end.ensures
+    let told = rw c.in-Unequal.is at c.in_ok-answer.ensures in
+    told-within _ _ _ c.compare.new.space told c.rule_end-end.result c.rule_end-end.ensures
 
-pub slice_bounds-judge-end-2 : goal.slice_bounds-judge-end-2
-slice_bounds-judge-end-2 c =
+pub slice_bounds-judge-end-in-Unequal : goal.slice_bounds-judge-end-in-Unequal
+slice_bounds-judge-end-in-Unequal c =
     let end = c.rule_end-end in
-    let call = c.compare-answer in
-    let after = call.new.space in
-    sym (length-take-le end.result after (told-within _ _ _ after call.result call.ensures c.in-Unequal.is end.result end.ensures))
+    let after = c.compare.new.space in
+    let told = rw c.in-Unequal.is at c.in_ok-answer.ensures in
+    sym (length-take-le end.result after (told-within _ _ _ after told end.result end.ensures))
 
 pub judge-requires : goal.judge-requires
 judge-requires c =
-    let end = c.rule_end-end in
-    let call = c.compare-answer in
-    told-rule _ _ _ call.new.space call.result call.ensures c.in-Unequal.is end.result end.ensures
+    let told = rw c.in-Unequal.is at c.in_ok-answer.ensures in
+    told-rule _ _ _ c.compare.new.space told c.rule_end-end.result c.rule_end-end.ensures
 
-pub returns : goal.returns
-returns c =
-    let end = c.rule_end-end in
-    let call = c.compare-answer in
-    explained-unequal _ _ _ call.new.space call.result call.ensures c.in-Unequal.is end.result end.ensures
+pub returns-in-Unequal : goal.returns-in-Unequal
+returns-in-Unequal c =
+    let told = rw c.in-Unequal.is at c.in_ok-answer.ensures in
+    explained-unequal _ _ _ c.compare.new.space told c.rule_end-end.result c.rule_end-end.ensures
     c.judge.result c.judge.ensures

@@ -1,19 +1,13 @@
 -- `judge` meets its contract: where the second machine breaks the rule the first keeps it, and otherwise the first breaks it.
-use Rattle.explain.proofs.ToldRules.{judged-first, judged-second}
+use Rattle.explain.proofs.ToldRules.{judged-first, not-both, some-break}
 use Rattle.explain.proofs.verdict.judge.Goals as goal
 
-pub returns-then-node-ne0 : goal.returns-then-node-ne0
-returns-then-node-ne0 c =
-    let a = c.args in
-    let apart = c.requires.apart in
-    let second = c.broken_at-node in
-    judged-first a.first.now a.second.now a.rule.now apart second.result second.ensures c.if-node-ne0.true
+pub returns-in-Some : goal.returns-in-Some
+returns-in-Some c =
+    judged-first c.args.first.now c.args.second.now c.args.rule.now c.requires.apart c.in-Some.node c.in-Some.ensures
 
-pub returns : goal.returns
-returns c =
+pub unwrap-requires : goal.unwrap-requires
+unwrap-requires c =
     let a = c.args in
-    let apart = c.requires.apart in
-    let second = c.broken_at-node in
-    let first = c.broken_at in
-    judged-second a.first.now a.second.now a.rule.now apart second.result second.ensures c.if-node-ne0.false
-    first.result first.ensures
+    some-break a.first.now a.rule.now _ c.broken_at-2.ensures
+    (not-both a.first.now a.second.now a.rule.now c.requires.apart c.in_default.ensures)

@@ -1,15 +1,10 @@
--- `bytes_of` meets its contract. The loop's invariant: the bytes of i words stand at the head of the list as it was, and its length is
--- kept. The measure is what is left of the count.
+-- `bytes_of` meets its contract. The loop's invariant: the bytes of i words stand at the head of the list as it was.
 use mathlib.Core.Path.{◌≡◌}
-use Prim.Native.Nat.{◌≤◌, ◌-◌, ◌*◌}
+use Prim.Native.Nat.{◌*◌}
 use mathlib.Core.List.{◌++◌}
-use lib.ListN.{length, take, drop}
+use lib.ListN.{take, drop}
 use Rattle.input.specs.Bytes.{bytes_of}
 use Rattle.input.proofs.bytes.bytes_of.Given as goal
 
 abbrev pub invariant-loop-i : goal.invariant-loop-i
-invariant-loop-i l =
-    (l.i ≤ l.n) × (length l.bytes ≡ length l.initial.bytes) × (l.bytes ≡ take (2 * l.i) (bytes_of l.words) ++ drop (2 * l.i) l.initial.bytes)
-
-abbrev pub decreases-loop-i : goal.decreases-loop-i
-decreases-loop-i l = l.n - l.i
+invariant-loop-i l = l.bytes ≡ take (2 * l.i) (bytes_of l.words) ++ drop (2 * l.i) l.initial.bytes

@@ -8,7 +8,7 @@ use borrow.Author.Rules.{rules}
 use Rattle.input.proofs.cut.sheets_of.Goals as goal
 
 pub returns-then-not-readable : goal.returns-then-not-readable
-returns-then-not-readable c = no-sheets _ _ (sym c.readable.ensures ∙ c.if-not-readable.true)
+returns-then-not-readable c = no-sheets _ _ (sym c.readable.ensures ∙ c.if-not-readable.true) _
 
 pub slice_bounds-first_end-end-2 : goal.slice_bounds-first_end-end-2
 slice_bounds-first_end-end-2 c =

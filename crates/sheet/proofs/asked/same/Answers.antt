@@ -7,5 +7,5 @@ use Rattle.sheet.proofs.asked.same.Goals as goal
 pub returns : goal.returns
 returns c =
     let word = c.args.word.now in
-    let other = c.args.other.now in
+    let other = c.args.name.now in
     c.eq.ensures ∙ sym (is_same word other _ (bytes_decides word other))

@@ -13,7 +13,7 @@ loop-states-init c = rw (c.variables-v.ensures, c.initial-first.ensures, c.state
 
 pub all_total-requires : goal.all_total-requires
 all_total-requires c =
-    (omega (arith, c.variables-v.ensures, c.requires), c.if-n-le-CHAINED_MOST.true)
+    omega (arith, c.variables-v.ensures, c.requires)
 
 pub returns-then-n-le-CHAINED_MOST : goal.returns-then-n-le-CHAINED_MOST
 returns-then-n-le-CHAINED_MOST c =
@@ -24,7 +24,7 @@ returns-then-n-le-CHAINED_MOST c =
 
 pub all_total-requires-in-loop-states : goal.all_total-requires-in-loop-states
 all_total-requires-in-loop-states c =
-    (omega (arith, c.variables-v.ensures, c.requires), omega arith)
+    omega (arith, c.variables-v.ensures, c.requires)
 
 pub returns-then-not-all_total : goal.returns-then-not-all_total
 returns-then-not-all_total c =

@@ -9,5 +9,5 @@ use Rattle.sheets.proofs.automata.leaving.Goals as goal
 pub returns : goal.returns
 returns c =
     let args = c.args in
-    leaves-along args.r.now args.q _ _ _ _ _ c.transitions_from.ensures c.state_word-first.ensures
-    c.transitions-left.ensures (search rules) (search rules) (zeros chained_most) refl refl refl refl refl c.leaving_along.ensures
+    leaves-along args.r.now args.q _ _ _ _ _ c.transitions_from.ensures c.state_word.ensures
+    c.transitions.ensures (search rules) (zeros chained_most) c.none.ensures c.none-2.ensures refl refl refl c.along.ensures

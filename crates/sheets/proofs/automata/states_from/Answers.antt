@@ -11,4 +11,4 @@ pub returns : goal.returns
 returns c =
     let a = c.args in
     states-along a.r.now _ _ _ _ _ c.states_from.ensures (omega arith) refl (length-replicate {A = ℕ} chained_most 0) (zeros chained_most)
-    c.numbers_along.ensures
+    c.along.ensures

@@ -2,4 +2,4 @@
 use Rattle.sheets.proofs.automata.states_of.Goals as goal
 
 pub returns : goal.returns
-returns c = rw (c.initial-first.ensures, c.states-left.ensures) at c.states_from.ensures
+returns c = rw (c.initial.ensures, c.states.ensures) at c.states_from.ensures

@@ -1,6 +1,6 @@
--- `accepting_row` meets its contract. The invariant: the set so far has the positions below i of accepting states. The measure is what is left of n.
+-- The invariant of `accepting_row`: the set so far has the positions below i with an accepting state.
 use mathlib.Core.Path.{◌≡◌}
-use Prim.Native.Nat.{ℕ, ◌-◌, ◌≤◌}
+use Prim.Native.Nat.{ℕ}
 use mathlib.Core.List.{List}
 use mathlib.Core.Bool.{Bool}
 use lib.ListN.{get_or}
@@ -13,7 +13,4 @@ abbrev pub test : List ℕ → List ℕ → ℕ → Bool
 test r states i = accepting r (get_or states i 0)
 
 abbrev pub invariant-loop-i : goal.invariant-loop-i
-invariant-loop-i l = (l.i ≤ l.n) × ((k : ℕ) → bit l.out k ≡ up_to (test l.r l.states) k l.i)
-
-abbrev pub decreases-loop-i : goal.decreases-loop-i
-decreases-loop-i l = l.n - l.i
+invariant-loop-i l = (k : ℕ) → bit l.out.bits k ≡ up_to (test l.r l.states.numbers) k l.i

@@ -1,19 +1,13 @@
--- `q3` meets its contract. The invariant: the nodes passed have only the machine's signals, and a flag of 0 or 1. The measure is how
--- many are left.
-use Rattle.sheets.specs.MachineForms.{q3}
-use Rattle.sheets.proofs.EachLoops.{each-starts, test-goes, test-stops, each-ends}
+-- `q3` meets its contract: its closure answers for each node as question 3 does.
+use mathlib.Core.Path.{◌∙◌}
+use Rattle.std.proofs.Common.{rules}
+use borrow.Author.Tests.{tests}
+use Rattle.sheets.specs.MachineForms.{q3, node_in_range}
+use Rattle.sheets.proofs.EachRecord.{all_records}
 use Rattle.sheets.proofs.machine.q3.Goals as goal
-
-pub loop-s-init : goal.loop-s-init
-loop-s-init c = search each-starts
-
-pub returns-then-not-node_in_range : goal.returns-then-not-node_in_range
-unfolding q3
-returns-then-not-node_in_range c = search test-stops
-
-pub loop-s-preserved : goal.loop-s-preserved
-loop-s-preserved c = search test-goes
 
 pub returns : goal.returns
 unfolding q3
-returns c = search each-ends
+returns c =
+    all_records _ (node_in_range c.args.f c.args.m.now) c.all.ensures.ran c.new.ensures.start (c.new.ensures.end ∙ c.nodes.ensures)
+    c.new.ensures.exhausted (λ x b q k. search (rules, tests))

@@ -1,14 +1,10 @@
--- `put_masks` meets its contract. The invariant: the masks towards the positions below k are written, and those of earlier positions are as
--- they were. The measure is what is left of n.
+-- The invariant of `put_masks`: the masks towards the positions below k are written, and those of earlier positions are as they were.
 use mathlib.Core.Path.{◌≡◌}
-use Prim.Native.Nat.{ℕ, ◌+◌, ◌-◌, ◌*◌, ◌≤◌, ◌<◌}
+use Prim.Native.Nat.{ℕ, ◌+◌, ◌*◌, ◌<◌}
 use lib.ListN.{length, get_or}
 use Rattle.sheets.specs.Format.{chained_most}
 use Rattle.sheets.proofs.position.put_masks.Given as goal
 
 abbrev pub invariant-loop-k : goal.invariant-loop-k
 invariant-loop-k l =
-    (l.k ≤ l.n) × (length l.out ≡ chained_most * chained_most) × ((j : ℕ) → j < l.k → get_or l.out (chained_most * l.p + j) 0 ≡ get_or l.masks j 0) × ((i : ℕ) → i < chained_most * l.p → get_or l.out i 0 ≡ get_or l.initial.out i 0)
-
-abbrev pub decreases-loop-k : goal.decreases-loop-k
-decreases-loop-k l = l.n - l.k
+    (length l.out ≡ chained_most * chained_most) × ((j : ℕ) → j < l.k → get_or l.out (chained_most * l.p + j) 0 ≡ get_or l.masks j 0) × ((i : ℕ) → i < chained_most * l.p → get_or l.out i 0 ≡ get_or l.initial.out i 0)

@@ -1,6 +1,6 @@
--- `positions` meets its contract. The invariant: the set so far has the positions below k at which t stands. The measure is what is left of n.
+-- The invariant of `positions`: the set so far has the positions below k at which t stands.
 use mathlib.Core.Path.{◌≡◌}
-use Prim.Native.Nat.{ℕ, ◌-◌, ◌≤◌}
+use Prim.Native.Nat.{ℕ}
 use mathlib.Core.List.{List}
 use mathlib.Core.Bool.{Bool}
 use lib.ListN.{get_or}
@@ -13,7 +13,4 @@ abbrev pub test : List ℕ → ℕ → ℕ → Bool
 test states t k = eqb t (get_or states k 0)
 
 abbrev pub invariant-loop-k : goal.invariant-loop-k
-invariant-loop-k l = (l.k ≤ l.n) × ((j : ℕ) → bit l.out j ≡ up_to (test l.states l.t) j l.k)
-
-abbrev pub decreases-loop-k : goal.decreases-loop-k
-decreases-loop-k l = l.n - l.k
+invariant-loop-k l = (j : ℕ) → bit l.out.bits j ≡ up_to (test l.states.numbers l.t) j l.k

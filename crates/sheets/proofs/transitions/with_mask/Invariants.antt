@@ -1,7 +1,6 @@
--- `with_mask` meets its contract. The invariant: the positions below k have their mask, and from k on the masks are as they were. The
--- measure is what is left of n.
+-- The invariant of `with_mask`: the positions below k have their mask, and from k on the masks are as they were.
 use mathlib.Core.Path.{◌≡◌}
-use Prim.Native.Nat.{ℕ, ◌-◌, ◌≤◌, ◌<◌}
+use Prim.Native.Nat.{ℕ, ◌≤◌, ◌<◌}
 use lib.ListN.{length, get_or}
 use Rattle.sheets.specs.Format.{chained_most}
 use Rattle.sheets.proofs.LeavingChains.{Masked}
@@ -9,7 +8,4 @@ use Rattle.sheets.proofs.transitions.with_mask.Given as goal
 
 abbrev pub invariant-loop-k : goal.invariant-loop-k
 invariant-loop-k l =
-    (l.k ≤ l.n) × (length l.masks ≡ chained_most) × ((j : ℕ) → j < l.k → Masked l.initial.masks l.set l.mask j (get_or l.masks j 0)) × ((j : ℕ) → l.k ≤ j → get_or l.masks j 0 ≡ get_or l.initial.masks j 0)
-
-abbrev pub decreases-loop-k : goal.decreases-loop-k
-decreases-loop-k l = l.n - l.k
+    (length l.masks ≡ chained_most) × ((j : ℕ) → j < l.k → Masked l.initial.masks l.set.bits l.mask j (get_or l.masks j 0)) × ((j : ℕ) → l.k ≤ j → get_or l.masks j 0 ≡ get_or l.initial.masks j 0)

@@ -1,4 +1,5 @@
 -- `put` meets its contract, state by state: a number is stored at the place behind the words before it.
+use mathlib.Core.Logic.{⊎_elim}
 use native.Mathlib.Omega.{arith}
 use Rattle.text.specs.inner.Readers.{held}
 use Rattle.text.proofs.read.put.Goals as goal
@@ -11,14 +12,10 @@ pub bounds-words-at : goal.bounds-words-at
 unfolding held
 bounds-words-at c = omega (arith, rw c.in-Number.is at c.requires)
 
-pub returns-in-Gap : goal.returns-in-Gap
-unfolding held
-returns-in-Gap c = rw c.in-Gap.is
-
 pub returns-in-Number : goal.returns-in-Number
 unfolding held
 returns-in-Number c = rw c.in-Number.is
 
-pub returns-in-Stopped : goal.returns-in-Stopped
+pub returns-in-Gap : goal.returns-in-Gap
 unfolding held
-returns-in-Stopped c = rw c.in-Stopped.is
+returns-in-Gap c = ⊎_elim (λ e. rw e) (λ e. rw e.1) c.in-Gap.is

@@ -1,22 +1,10 @@
 -- `words_of_text` meets its contract: nothing is written until the answer is known.
 use mathlib.Core.Path.{sym, ◌∙◌}
-use lib.ListN.{length}
-use Rattle.text.specs.Texts.{reading_of}
 use Rattle.text.proofs.Filling.{left-filled, left_alone}
 use Rattle.text.proofs.read.words_of_text.Goals as goal
 
-pub returns-in-Words : goal.returns-in-Words
-returns-in-Words c =
-    let start = c.args in
-    let told = sym c.in-Words.is ∙ c.scan-found.ensures in
-    let read = reading_of (length start.words.now) start.text.now in
-    record { answer = told; left = left-filled read _ start.words.now _ told c.fill.ensures }
+pub returns-in_err-count-clause-left : goal.returns-in_err-count-clause-left
+returns-in_err-count-clause-left c = left_alone _ _ _ (sym c.in_err-count.was ∙ c.scan.ensures.answer)
 
-pub returns-in-Fault : goal.returns-in-Fault
-returns-in-Fault c =
-    let start = c.args in
-    let told = sym c.in-Fault.is ∙ c.scan-found.ensures in
-    record {
-      answer = told;
-      left = left_alone (reading_of (length start.words.now) start.text.now) _ _ start.words.now told;
-    }
+pub returns-clause-left : goal.returns-clause-left
+returns-clause-left c = left-filled _ _ _ _ (sym c.in_ok-count.was ∙ c.scan.ensures.answer) c.fill.ensures

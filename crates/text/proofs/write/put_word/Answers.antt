@@ -1,23 +1,11 @@
--- `put_word` meets its contract: a word and a blank are at most six bytes.
-use mathlib.Core.Path.{ap, ◌∙◌}
-use Prim.Native.Nat.{ℕ, ◌+◌}
+-- `put_word` meets its contract: the digits are put, and behind them the blank.
+use mathlib.Core.Path.{◌∙◌}
 use native.Mathlib.Omega.{arith}
-use Rattle.text.specs.Layout.{word_text}
-use Rattle.text.proofs.Writing.{word-most, line-pasted}
+use Rattle.text.proofs.Writing.{word-placed, word-most}
 use Rattle.text.proofs.write.put_word.Goals as goal
 
-pub put_line-requires : goal.put_line-requires
-put_line-requires c =
-    let start = c.args in
-    omega (arith, word-most start.word start.blank (omega arith), c.word_line.ensures.len)
-
-pub returns : goal.returns
-returns c =
-    let start = c.args in
-    let line = c.word_line in
-    let put = c.put_line in
-    let pasted = line-pasted line.result (word_text start.word start.blank) start.text.now start.at line.ensures in
-    record {
-      value = put.ensures.value ∙ ap (λ (k : ℕ). start.at + k) line.ensures.len;
-      text_after = put.ensures.text_after ∙ pasted;
-    }
+pub returns-clause-text_after : goal.returns-clause-text_after
+returns-clause-text_after c =
+    let digits = c.as_bytes-digits.ensures.value ∙ c.format.ensures.text in
+    let fits = word-most c.args.word c.args.blank (omega arith) in
+    word-placed _ _ _ _ _ c.args.word c.args.blank (c.copy_from_slice.ensures.after ∙ digits) (omega arith) (omega (arith, digits)) (omega arith)

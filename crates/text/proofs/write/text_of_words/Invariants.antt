@@ -1,12 +1,6 @@
 -- `text_of_words` meets its contract. The loop's invariant: i words are put, up to a place, and there is room for those that are left.
--- The measure is how many are left.
-use Prim.Native.Nat.{◌≤◌, ◌-◌}
-use lib.ListN.{length}
 use Rattle.text.proofs.Writing.{Wrote}
 use Rattle.text.proofs.write.text_of_words.Given as goal
 
 abbrev pub invariant-loop-i : goal.invariant-loop-i
-invariant-loop-i l = (l.i ≤ length l.words) × Wrote l.words l.initial.text l.i l.at l.text
-
-abbrev pub decreases-loop-i : goal.decreases-loop-i
-decreases-loop-i l = length l.words - l.i
+invariant-loop-i l = Wrote l.words l.initial.text l.i l.at l.text

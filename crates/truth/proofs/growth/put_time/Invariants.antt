@@ -1,12 +1,7 @@
--- `put_time` meets its contract. The invariant: the nodes seen have the time, and all else is as it was. The measure is how many nodes are left.
-use Rattle.sheets.proofs.Counting.{number}
-use Rattle.truth.specs.Sizes.{members_most}
+-- `put_time` meets its contract. The invariant: the nodes that were taken have the time, and all else is as it was.
 use Rattle.truth.specs.inner.Rows.{row_has}
 use Rattle.truth.proofs.growth.RowTimes.{Putting}
 use Rattle.truth.proofs.growth.put_time.Given as goal
 
-abbrev pub invariant-loop-rest : goal.invariant-loop-rest
-invariant-loop-rest l = Putting (row_has l.initial.rest) (row_has l.rest) l.p l.time l.initial.times l.times
-
-abbrev pub decreases-loop-rest : goal.decreases-loop-rest
-decreases-loop-rest l = number members_most (row_has l.rest)
+abbrev pub invariant-loop-s : goal.invariant-loop-s
+invariant-loop-s l = Putting (row_has l.fn.row) (row_has l.s-iterator.left) l.p l.time l.initial.times l.times

@@ -1,11 +1,7 @@
--- `label_lines` meets its contract. The invariant: the rows of the lines up to j are written, and each has the truths of its line.
--- The measure is the lines left.
-use Prim.Native.Nat.{◌-◌, ◌≤◌}
+-- The invariant of `label_lines`: the rows of the lines before j are written, and each has the truths of its line.
+use Rattle.std.proofs.Common.{◌+◌, ◌-◌, ◌≤◌}
 use Rattle.truth.specs.Labelling.{RowsTo}
 use Rattle.truth.proofs.labelling.label_lines.Given as goal
 
 abbrev pub invariant-loop-j : goal.invariant-loop-j
-invariant-loop-j l = (l.j ≤ l.upto) × RowsTo l.m l.r l.j l.initial.rows l.rows
-
-abbrev pub decreases-loop-j : goal.decreases-loop-j
-decreases-loop-j l = l.upto - l.j
+invariant-loop-j l = record { next : l.j ≤ l.upto + 1; rows : RowsTo l.m l.r (l.j - 1) l.initial.rows l.rows }

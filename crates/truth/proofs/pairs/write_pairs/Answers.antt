@@ -11,7 +11,7 @@ returns c =
     let l = c.loop-i in
     let fits = c.requires in
     let all : l.i ≡ a.n = omega arith in
-    let e = rw all at l.invariant.1 in (
+    let e = rw all at l.invariant in (
       ap pair_nodes e ∙ nodes-filled a.n a.nodes.now a.states.now a.list.now fits.1.0 fits.1.1 fits.0,
       ap pair_states e ∙ states-filled a.n a.nodes.now a.states.now a.list.now fits.1.0 fits.1.1 fits.0,
     )

@@ -1,38 +1,39 @@
 -- `path_lists` meets its contract: what was made is written over the first words of the lent lists, and shows the same path there.
--- No list has more than 2048 pairs, so that more room than that changes no answer.
-use mathlib.Core.Path.{◌≡◌}
-use native.Mathlib.Omega.{arith}
-use lib.ListN.{length}
+use Rattle.std.proofs.Common.{◌≡◌, length, arith, rules}
+use Rattle.std.proofs.lemmas.List.{length-take, length-take-le}
 use Rattle.truth.specs.Sizes.{pairs_most}
 use Rattle.truth.proofs.path.ShownPaths.{count_most, answered}
-use borrow.Author.Rules.{rules}
 use Rattle.truth.proofs.path.path_lists.Goals as goal
+
+pub shared_ref_as_front-write_nodes : goal.shared_ref_as_front-write_nodes
+shared_ref_as_front-write_nodes c =
+    let a = c.args in
+    let made = c.make_within-made in
+    omega (arith, count_most a.m.now a.r.now a.line a.node _ made.result.nodes made.result.states _ made.result.answer made.ensures c.length_of-count.ensures)
 
 pub write_nodes-requires : goal.write_nodes-requires
 write_nodes-requires c =
-    let made = c.make_within-made in
     let a = c.args in
+    let made = c.make_within-made in
     let few = count_most a.m.now a.r.now a.line a.node _ made.result.nodes made.result.states _ made.result.answer made.ensures c.length_of-count.ensures in
-    let long-nodes : length c.make_within-made.result.nodes ≡ pairs_most = search rules in
-    let least = c.least.ensures in
-    (omega (arith, few), long-nodes, omega (arith, few, least))
+    rw length-take (omega (arith, few, c.min.ensures))
 
-pub write_first-requires : goal.write_first-requires
-write_first-requires c =
-    let made = c.make_within-made in
+pub write_states-requires : goal.write_states-requires
+write_states-requires c =
     let a = c.args in
+    let made = c.make_within-made in
     let few = count_most a.m.now a.r.now a.line a.node _ made.result.nodes made.result.states _ made.result.answer made.ensures c.length_of-count.ensures in
-    let long-states : length c.make_within-made.result.states ≡ pairs_most = search rules in
-    let least = c.least.ensures in
-    (omega (arith, few), long-states, omega (arith, few, least))
+    rw length-take (omega (arith, few, c.min.ensures))
 
 pub returns : goal.returns
 returns c =
-    let made = c.make_within-made in
     let a = c.args in
-    let least = c.least.ensures in
+    let made = c.make_within-made in
+    let few = count_most a.m.now a.r.now a.line a.node _ made.result.nodes made.result.states _ made.result.answer made.ensures c.length_of-count.ensures in
     let long-nodes : length c.make_within-made.result.nodes ≡ pairs_most = search rules in
     let long-states : length c.make_within-made.result.states ≡ pairs_most = search rules in
+    let count = c.length_of-count.result in
     answered a.m.now a.r.now a.line a.node _ made.result.nodes made.result.states a.nodes.now a.states.now _ _
-    (omega (arith, least)) (omega arith) (omega arith) _ made.result.answer
-    made.ensures c.length_of-count.ensures c.write_nodes.ensures c.write_first.ensures
+    (omega (arith, c.min.ensures)) (omega arith) (omega arith) _ made.result.answer made.ensures c.length_of-count.ensures
+    (rw (length-take-le count made.result.nodes (omega (arith, few, long-nodes))) at c.write_nodes.ensures)
+    (rw (length-take-le count made.result.states (omega (arith, few, long-states))) at c.write_states.ensures)

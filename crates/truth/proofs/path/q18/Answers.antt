@@ -8,10 +8,11 @@ use Rattle.sheets.specs.Operations.{some_path_operation, some_path_not_operation
 use Rattle.sheets.specs.Words.{within}
 use Rattle.sheets.specs.Machine.{nodes}
 use Rattle.sheets.specs.Rules.{lent, lines, line_word}
+use Rattle.sheets.proofs.OperationNumbers.{none-path}
 use Rattle.truth.specs.Path.{asked, q18}
 use Rattle.truth.proofs.path.q18.Goals as goal
 
-module _ (M R : List ℕ) (j s k l n w : ℕ) (a b d : Bool) (ek : k ≡ asked R j) (el : l ≡ lines R) (ea : a ≡ within 1 l k) where
+module _ (M R : List ℕ) (j s k l n : ℕ) (a b d : Bool) (ek : k ≡ asked R j) (el : l ≡ lines R) (ea : a ≡ within 1 l k) where
   no_line : a ≡ false → false ≡ q18 M R j s
   unfolding q18
   no_line x = rw (← ek, ← el, ← ea, x) refl
@@ -21,23 +22,29 @@ module _ (M R : List ℕ) (j s k l n w : ℕ) (a b d : Bool) (ek : k ≡ asked R
     unfolding q18
     no_node y = rw (← ek, ← el, ← ea, x, ← en, ← eb, y) refl
 
-    last-test : b ≡ true → w ≡ line_word lent R k operation_place → d ≡ within some_path_operation some_path_not_operation w → d ≡ q18 M R j s
+    last-test : b ≡ true → d ≡ within some_path_operation some_path_not_operation (line_word lent R k operation_place) → d ≡ q18 M R j s
     unfolding q18
-    last-test y ew ed = rw (← ek, ← el, ← ea, x, ← en, ← eb, y, ← ew, ← ed) refl
+    last-test y ed = rw (← ek, ← el, ← ea, x, ← en, ← eb, y, ← ed) refl
 
 pub returns-then-not-within : goal.returns-then-not-within
 returns-then-not-within c =
     let k = c.asked-j in
     let l = c.lines in
-    no_line _ _ _ _ _ _ 0 0 _ true true k.ensures l.ensures c.within.ensures c.if-not-within.true
+    no_line _ _ _ _ _ _ 0 _ true true k.ensures l.ensures c.within.ensures c.if-not-within.true
 
 pub returns-then-not-within-2 : goal.returns-then-not-within-2
 returns-then-not-within-2 c =
-    no_node _ _ _ _ _ _ _ 0 _ _ true c.asked-j.ensures c.lines.ensures c.within.ensures
+    no_node _ _ _ _ _ _ _ _ _ true c.asked-j.ensures c.lines.ensures c.within.ensures
     c.if-not-within.false c.nodes.ensures c.within-2.ensures c.if-not-within-2.true
 
-pub returns : goal.returns
-returns c =
-    last-test _ _ _ _ _ _ _ _ _ _ _ c.asked-j.ensures c.lines.ensures c.within.ensures
+pub returns-in-Ok : goal.returns-in-Ok
+returns-in-Ok c =
+    last-test _ _ _ _ _ _ _ _ _ _ c.asked-j.ensures c.lines.ensures c.within.ensures
     c.if-not-within.false c.nodes.ensures c.within-2.ensures c.if-not-within-2.false
-    c.operation.ensures c.within-3.ensures
+    (rw c.in-Ok.ensures at c.is_path.ensures)
+
+pub returns-in-Err : goal.returns-in-Err
+returns-in-Err c =
+    last-test _ _ _ _ _ _ _ _ _ _ c.asked-j.ensures c.lines.ensures c.within.ensures
+    c.if-not-within.false c.nodes.ensures c.within-2.ensures c.if-not-within-2.false
+    (none-path _ c.in-Err.ensures.1)

@@ -15,18 +15,21 @@ by_position-a-requires c = states-few c.requires.0
 
 pub solve-solved-requires : goal.solve-solved-requires
 solve-solved-requires c =
-    rw c.arguments.ensures (solvable c.requires.0 c.by_position-a.result c.by_position-a.ensures)
+    solvable c.requires.0 c.by_position-a.result c.by_position-a.ensures
 
 pub returns-then-not-has : goal.returns-then-not-has
 returns-then-not-has c =
     let load = c.load-row.ensures in
-    let line = rw c.arguments.ensures at (c.solve-solved.ensures _ _ _ c.by_position-a.ensures) in
+    let line = c.solve-solved.ensures _ _ _ c.by_position-a.ensures in
     none-shown c.requires.0 line c.args.s c.requires.1.0 c.requires.1.1 load.0 load.1 c.has.ensures c.if-not-has.true _ _
 
-pub trace-found-requires : goal.trace-found-requires
-trace-found-requires c =
+pub invariant_of-trace : goal.invariant_of-trace
+invariant_of-trace c = record { few = (solvable c.requires.0 c.by_position-a.result c.by_position-a.ensures).few }
+
+pub trail-found-requires : goal.trail-found-requires
+trail-found-requires c =
     let load = c.load-row.ensures in
-    let line = rw c.arguments.ensures at (c.solve-solved.ensures _ _ _ c.by_position-a.ensures) in
+    let line = c.solve-solved.ensures _ _ _ c.by_position-a.ensures in
     let long : length c.solve-solved.result.times ≡ pairs_most = search rules in
     let timed : Timed c.solve-solved.result.times = omega arith in
     traceable c.requires.0 line c.args.s c.requires.1.0 c.requires.1.1 load.0 load.1 c.has.ensures c.if-not-has.false
@@ -35,15 +38,15 @@ trace-found-requires c =
 pub named-states-requires : goal.named-states-requires
 named-states-requires c =
     let load = c.load-row.ensures in
-    let line = rw c.arguments.ensures at (c.solve-solved.ensures _ _ _ c.by_position-a.ensures) in
+    let line = c.solve-solved.ensures _ _ _ c.by_position-a.ensures in
     list-fits c.requires.0 line c.args.s c.requires.1.0 c.requires.1.1 load.0 load.1 c.has.ensures c.if-not-has.false
-    c.by_position-a.ensures.count c.nodes-n.ensures c.trace-found.result.nodes c.trace-found.result.positions c.trace-found.ensures
+    c.by_position-a.ensures.count c.nodes-n.ensures c.trail-found.result.nodes c.trail-found.result.positions c.trail-found.ensures
 
 pub returns : goal.returns
 returns c =
     let load = c.load-row.ensures in
-    let line = rw c.arguments.ensures at (c.solve-solved.ensures _ _ _ c.by_position-a.ensures) in
+    let line = c.solve-solved.ensures _ _ _ c.by_position-a.ensures in
     let tabled = c.by_position-a in
     shows-line c.requires.0 line c.args.s c.requires.1.0 c.requires.1.1 load.0 load.1 c.has.ensures c.if-not-has.false
-    tabled.ensures.count c.nodes-n.ensures c.trace-found.result.nodes c.trace-found.result.positions c.trace-found.ensures
+    tabled.ensures.count c.nodes-n.ensures c.trail-found.result.nodes c.trail-found.result.positions c.trail-found.ensures
     tabled.result.numbers c.named-states.result tabled.ensures.numbers c.named-states.ensures

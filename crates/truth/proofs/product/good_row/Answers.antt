@@ -1,31 +1,23 @@
 -- `good_row` meets its contract: a position is good where it accepts, or where the two are exchanged and it does not.
-use mathlib.Core.Path.{sym, ◌∙◌}
-use native.Mathlib.Omega.{arith}
-use mathlib.Core.Bool.{and-true, and-false}
+use mathlib.Core.Path.{◌≡◌, refl, sym, ◌∙◌}
+use mathlib.Core.Bool.{Bool, true, false, not, beq, and-true, and-false}
 use Rattle.truth.specs.inner.Rows.{row_has}
 use Rattle.truth.specs.inner.Product.{turned}
 use Rattle.truth.proofs.product.good_row.Goals as goal
 
-pub empty-requires : goal.empty-requires
-empty-requires c = omega arith
-
-pub returns-then-accepts : goal.returns-then-accepts
+turned-is : (a b : Bool) → turned b a ≡ not (beq a b)
 unfolding turned
-returns-then-accepts c s =
-    rw (c.if-exchanged.true, c.if-accepts.true) (c.empty.ensures s ∙ sym (and-false (row_has c.args.all s)))
+turned-is true true = refl
+turned-is true false = refl
+turned-is false true = refl
+turned-is false false = refl
 
-pub returns-then-exchanged : goal.returns-then-exchanged
-unfolding turned
-returns-then-exchanged c s = rw (c.if-exchanged.true, c.if-accepts.false) (sym (and-true (row_has c.args.all s)))
+pub returns-then-accepts-exchanged : goal.returns-then-accepts-exchanged
+returns-then-accepts-exchanged c s =
+    let a = c.args in
+    rw (turned-is a.accepts a.exchanged, c.if-accepts-exchanged.true) (c.empty.ensures s ∙ sym (and-false (row_has a.all s)))
 
-pub returns-then-accepts-2 : goal.returns-then-accepts-2
-unfolding turned
-returns-then-accepts-2 c s = rw (c.if-exchanged.false, c.if-accepts-2.true) (sym (and-true (row_has c.args.all s)))
-
-pub empty-requires-2 : goal.empty-requires-2
-empty-requires-2 c = omega arith
-
-pub returns : goal.returns
-unfolding turned
-returns c s =
-    rw (c.if-exchanged.false, c.if-accepts-2.false) (c.empty-2.ensures s ∙ sym (and-false (row_has c.args.all s)))
+pub returns-else-accepts-exchanged : goal.returns-else-accepts-exchanged
+returns-else-accepts-exchanged c s =
+    let a = c.args in
+    rw (turned-is a.accepts a.exchanged, c.if-accepts-exchanged.false) (sym (and-true (row_has a.all s)))

@@ -1,6 +1,6 @@
--- `good_table` meets its contract. The invariant: the rows below p are those of their positions. The measure is what is left of t.
+-- `good_table` meets its contract. The invariant: the rows below p are those of their positions.
 use mathlib.Core.Path.{◌≡◌}
-use Prim.Native.Nat.{ℕ, ◌-◌, ◌≤◌}
+use Prim.Native.Nat.{ℕ}
 use mathlib.Core.Bool.{Bool, ◌&&◌}
 use Rattle.sheets.specs.Words.{bit}
 use Rattle.truth.specs.Sizes.{set_words}
@@ -15,7 +15,4 @@ abbrev pub Has : Row → ℕ → Bool → ℕ → ℕ → Bool → Type 0
 Has all accepting exchanged p s b = b ≡ (row_has all s && turned exchanged (bit accepting p))
 
 abbrev pub invariant-loop-p : goal.invariant-loop-p
-invariant-loop-p l = (l.p ≤ l.t) × Filled set_words (Has l.all l.accepting l.exchanged) l.p l.out
-
-abbrev pub decreases-loop-p : goal.decreases-loop-p
-decreases-loop-p l = l.t - l.p
+invariant-loop-p l = Filled set_words (Has l.all l.accepting l.exchanged) l.p l.out

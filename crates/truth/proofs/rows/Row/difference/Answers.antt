@@ -2,14 +2,7 @@
 use mathlib.Core.Path.{◌∙◌}
 use Rattle.truth.specs.inner.Rows.{row_has}
 use Rattle.truth.proofs.rows.RowSets.{minus}
-use native.Mathlib.Omega.{arith}
 use Rattle.truth.proofs.rows.Row.difference.Goals as goal
-
-pub complement-requires : goal.complement-requires
-complement-requires c = omega arith
-
-pub intersection-requires : goal.intersection-requires
-intersection-requires c = omega arith
 
 pub returns : goal.returns
 returns c s = c.intersection.ensures s ∙ minus _ _ s (row_has c.args.other s) _ (c.complement.ensures s)

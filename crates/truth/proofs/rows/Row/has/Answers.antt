@@ -5,32 +5,14 @@ use Rattle.sheets.proofs.BitLaws.{bit-read}
 use Rattle.truth.proofs.rows.RowLaws.{not-in-row, past_row, held_out, held_low, held_high}
 use Rattle.truth.proofs.rows.Row.has.Goals as goal
 
-pub returns-then-s-eq0 : goal.returns-then-s-eq0
-returns-then-s-eq0 c = sym (held_out _ _ _ (not-in-row _ c.if-s-eq0.true))
+pub returns-in-1-to-64 : goal.returns-in-1-to-64
+returns-in-1-to-64 c = bit-read _ _ ∙ sym (held_low _ _ _ (omega arith) (omega arith))
 
-pub overflow_sub-result : goal.overflow_sub-result
-overflow_sub-result c = omega arith
+pub returns-in-65-to-128 : goal.returns-in-65-to-128
+returns-in-65-to-128 c = bit-read _ _ ∙ sym (held_high _ _ _ (omega arith) (omega arith))
 
-pub overflow_cast-result : goal.overflow_cast-result
-overflow_cast-result c = omega arith
+pub returns-in_default : goal.returns-in_default
+returns-in_default c = sym (held_out _ _ _ (not-in-row c.args.s (omega arith)))
 
-pub overflow_shr-result : goal.overflow_shr-result
-overflow_shr-result c = omega arith
-
-pub returns-then-s-le-LOW_LAST : goal.returns-then-s-le-LOW_LAST
-returns-then-s-le-LOW_LAST c = bit-read _ _ ∙ sym (held_low _ _ _ (omega arith) (omega arith))
-
-pub overflow_sub-result-then-s-le-MEMBERS : goal.overflow_sub-result-then-s-le-MEMBERS
-overflow_sub-result-then-s-le-MEMBERS c = omega arith
-
-pub overflow_cast-result-then-s-le-MEMBERS : goal.overflow_cast-result-then-s-le-MEMBERS
-overflow_cast-result-then-s-le-MEMBERS c = omega arith
-
-pub overflow_shr-result-then-s-le-MEMBERS : goal.overflow_shr-result-then-s-le-MEMBERS
-overflow_shr-result-then-s-le-MEMBERS c = omega arith
-
-pub returns-then-s-le-MEMBERS : goal.returns-then-s-le-MEMBERS
-returns-then-s-le-MEMBERS c = bit-read _ _ ∙ sym (held_high _ _ _ (omega arith) (omega arith))
-
-pub returns : goal.returns
-returns c = sym (held_out _ _ _ (past_row c.args.s (omega arith)))
+pub returns-in_default-2 : goal.returns-in_default-2
+returns-in_default-2 c = sym (held_out _ _ _ (past_row c.args.s (omega arith)))

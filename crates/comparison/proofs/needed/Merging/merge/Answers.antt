@@ -1,0 +1,33 @@
+-- `merge` meets its contract. The invariant: the lines before i are done.
+use mathlib.Core.Path.{◌≡◌}
+use Prim.Native.Nat.{◌+◌, ◌-◌, ◌≤◌}
+use native.Mathlib.Omega.{arith}
+use lib.ListN.{length}
+use Rattle.comparison.proofs.needed.Merging.merge.Goals as goal
+
+pub loop-i-init : goal.loop-i-init
+loop-i-init c = record { high = omega arith; merged = λ a ls down holds inside. c.requires.none ls }
+
+pub loop-i-preserved : goal.loop-i-preserved
+loop-i-preserved c =
+    let at = c.loop-i in
+    record {
+      high = omega arith;
+      merged = λ a ls down holds inside.
+          let here : at.i ≤ length ls = omega arith in
+          let e : at.i + 1 - 1 ≡ at.i = omega arith in
+          rw e (c.merge_line.ensures a ls down here (c.line.ensures ls holds here) (at.invariant.merged a ls down holds inside));
+    }
+
+pub returns : goal.returns
+returns c a ls down holds inside =
+    let at = c.loop-i in
+    let e : at.i - 1 ≡ c.args.lines.now.count = omega arith in
+    rw e at (at.invariant.merged a ls down holds inside).stands
+
+pub returns-2 : goal.returns-2
+returns-2 c a ls down holds inside =
+    let at = c.loop-i in
+    let e : at.i ≡ c.args.lines.now.count = omega arith in
+    let here : at.i ≤ length ls = omega arith in
+    rw e at (c.merge_line.ensures a ls down here (c.line.ensures ls holds here) (at.invariant.merged a ls down holds inside)).stands

@@ -1,6 +1,0 @@
--- `put_line` meets its contract: one put after the other.
-use Rattle.sentences.proofs.Pages.{follows_then}
-use Rattle.sentences.proofs.sentence.put_line.Goals as goal
-
-pub returns : goal.returns
-returns c = follows_then c.put-said.ensures c.put_number.ensures

@@ -1,0 +1,9 @@
+-- `mixes_some` meets its contract: its closure answers for each position.
+use Rattle.std.proofs.Common.{rules}
+use borrow.Author.Tests.{tests}
+use Rattle.sheets.specs.inner.Positions.{mixing}
+use Rattle.sheets.proofs.EachRecord.{any_position}
+use Rattle.sheets.proofs.condition.Relation.mixes_some.Goals as goal
+
+pub returns : goal.returns
+returns c = any_position _ (mixing c.args.set.bits c.args.self.now.rows c.args.p) c.any.ensures.ran (λ x b q k. search (rules, tests))

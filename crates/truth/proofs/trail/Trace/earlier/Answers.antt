@@ -1,0 +1,1 @@
+-- `earlier` meets its contract. The invariant: the nodes that are not taken are all those of the row with an earlier time.
