@@ -5,7 +5,7 @@ use Prim.Native.Nat.{ℕ, ◌+◌, ◌<◌}
 use native.Mathlib.Decide.{ℕ_discrete}
 use native.Mathlib.Omega.{arith}
 use mathlib.Core.List.{List}
-use mathlib.Core.Bool.{Bool, true, false, not, ◌||◌}
+use mathlib.Core.Bool.{Bool, true, false, not}
 use lib.ListN.{length, get_or, set, length-set}
 use lib.Seq.{get_or-set_same, get_or-set_other}
 use lib.Dec.{T, not_T}
@@ -15,10 +15,6 @@ use Rattle.truth.proofs.rows.RowWalks.{Less, less-in, less-or}
 use Rattle.comparison.specs.inner.Blocks.{Members}
 use Rattle.comparison.specs.inner.Refinement.{Parted}
 use Rattle.comparison.specs.inner.Signatures.{MarkedRow, BlockMarks}
-
-pub or_right : (a b : Bool) → T b → T (a || b)
-or_right true b t = tt
-or_right false b t = t
 
 -- ---- the nodes of a row marked: those that are not left have the mark
 pub record Marking (row : ℕ → Bool) (e : ℕ) (before now : List ℕ) (left : ℕ → Bool) : Type 0 where

@@ -10,7 +10,7 @@ use lib.Dec.{T, leb, eqb, eqb_refl, le→leb}
 use Rattle.truth.specs.Sizes.{members_most}
 use Rattle.truth.specs.Passed.{nodes, within, nodes_most}
 use Rattle.truth.specs.inner.Rows.{marks_into, leads_into}
-use Rattle.truth.proofs.Passed.{and_both, or_left, within_in}
+use Rattle.truth.proofs.Passed.{and_both, or_left, or_right, within_in}
 use Rattle.truth.proofs.rows.RowLaws.{held_in}
 use Rattle.comparison.specs.inner.Lines.{next, Pushed}
 use Rattle.comparison.specs.inner.Blocks.{In, Meets, Unsplit, Split}
@@ -25,7 +25,7 @@ use Rattle.comparison.proofs.FinerBlocks.{unsplit-as, split-as, finer-none, fine
 use Rattle.comparison.proofs.StagedSplits.{blocks-fit, room, ready-again}
 use Rattle.comparison.proofs.Splitters.{ready-written}
 use Rattle.comparison.proofs.MarkedBlocks.{marks-next, marks-high}
-use Rattle.comparison.proofs.MarkedNodes.{or_right, marked-split}
+use Rattle.comparison.proofs.MarkedNodes.{marked-split}
 
 four : 4 ≤ 4
 four = omega arith

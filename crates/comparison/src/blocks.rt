@@ -11,8 +11,7 @@ use truth::rows::Row;
 use truth::tables::{load, store};
 
 // The nodes of two machines in blocks: row c of `first` and of `second` has the nodes of block c of each machine, `line` at c the line that
-// is true there and nowhere else. The blocks are the first `count`, of as many as there is room for, since nothing is kept on the heap. How
-// many they are at most is part of what each stage of refinement keeps (`Staged`, `Room`), and is not said a second time by a ghost field.
+// is true there and nowhere else. The blocks are the first `count`, of as many as there is room for, since nothing is kept on the heap.
 #[derive(Clone, Copy)]
 pub struct Partition {
     pub first: [u64; sizes::BLOCK_WORDS],

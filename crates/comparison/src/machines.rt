@@ -2,8 +2,8 @@
 use truth::rows::Row;
 use truth::structure::Tail;
 
-// A machine sheet, with the tail that its chains share. That it is one is a requirement, `Tailed`: `TailOf` has a choice in it, so it can
-// be no ghost field.
+// A machine sheet, with the tail that its chains share. That it is one is a requirement, `Tailed`: `TailOf` has a choice in it, which a
+// ghost field cannot hold as it stands.
 #[derive(Clone, Copy)]
 pub struct Machine<'a> {
     pub words: &'a [u16],

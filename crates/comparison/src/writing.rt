@@ -21,7 +21,7 @@ pub enum Line {
 }
 
 // Written lines: their words, and how many they are, in the room for the most that there may be, since nothing is kept on the heap. Lines
-// count from 1. That there is room is part of what each stage of refinement keeps (`Room`), and is not said a second time by a ghost field.
+// count from 1.
 #[derive(Clone, Copy)]
 pub struct Written {
     pub words: [u16; sizes::WRITTEN_SPACE],

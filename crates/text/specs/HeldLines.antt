@@ -1,6 +1,6 @@
 -- A line's bytes in its array: at the head, with 0 in the places past them.
 use Rattle.std.specs.Prelude.{◌≡◌, ℕ, ◌-◌, ◌≤◌, List, ◌++◌, length, take, replicate}
-use Rattle.std.proofs.Common.{ap, sym, ◌∙◌}
+use mathlib.Core.Path.{ap, sym, ◌∙◌}
 use Rattle.text.specs.Lines.{line_room}
 use Rattle.text.specs.declared.line.Line.TheInside.{Inside}
 

@@ -19,8 +19,8 @@ use sheets::{along, format, machine};
 
 // A tail that chains share: the nodes that the chain from record `at` on leads to. Every chain ends at record 0, from which on there is
 // nothing, so a machine with no shared tail has the tail from there: an Option would add a case to each walk and take none away. A sheet
-// and its tail are held together by comparison alone, by its `Machine`; here three functions take both. `TailOf` has a choice in it, so it
-// can be no ghost field.
+// and its tail are held together by comparison alone, by its `Machine`; here three functions take both. `TailOf` has a choice in it, which
+// a ghost field cannot hold as it stands.
 #[derive(Clone, Copy)]
 pub struct Tail {
     pub row: Row,
