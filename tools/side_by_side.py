@@ -25,12 +25,25 @@ def plain(text):
 
 
 def put(found, crate, name, module, text):
-    """A second item of a name is told from the first by its module."""
-    found[(crate, name) if (crate, name) not in found else (crate, f"{name} of {module}")] = (module, text)
+    """Items of one name in a crate are told apart by their modules."""
+    found.setdefault((crate, name), {})[module] = text
+
+
+def pairs(old, new):
+    """(crate, name, before, after), each of the two a (module, text) or None: the items of a name in one module belong together, and so do
+    the two that are left, if there is one on each side: that one has moved."""
+    for crate, name in sorted(set(old) | set(new)):
+        before, after = old.get((crate, name), {}), new.get((crate, name), {})
+        gone = sorted(module for module in before if module not in after)
+        come = sorted(module for module in after if module not in before)
+        there = [(module, module) for module in sorted(before) if module in after]
+        moved = list(zip(gone, come)) if len(gone) == len(come) == 1 else [(module, None) for module in gone] + [(None, module) for module in come]
+        for first, second in there + moved:
+            yield crate, name, first and (first, before[first]), second and (second, after[second])
 
 
 def items(commit):
-    """(crate, kind and name) -> (module, text) of what src/ promises: signatures with clauses, types, constants, impl members."""
+    """(crate, kind and name) -> module -> text of what src/ promises: signatures with clauses, types, constants, impl members."""
     found = {}
     for path, text in files(commit, r"^crates/[^/]+/src/.*\.rt$").items():
         crate = path.split("/")[1]
@@ -108,15 +121,16 @@ def theorems(commit, pages):
     """Those that a page names, without their proofs: a declaration's lines up to the first that has none of its type."""
     named = set(re.findall(r"`(?:[^`\s]*[./])?([^`\s./]+)`", pages))
     found = {}
-    for (crate, name), (module, text) in definitions(commit, "proofs").items():
-        lines = text.split("\n")
-        kept = [lines[0]]
-        for line in lines[1:]:
-            if re.match(r" *(unfolding |where|%s[ =])" % re.escape(name), line) and "record" not in lines[0]:
-                break
-            kept.append(line)
-        if name in named and (":" in lines[0] or "record" in lines[0]):
-            found[crate, name] = (module, "\n".join(kept))
+    for (crate, name), modules in definitions(commit, "proofs").items():
+        for module, text in modules.items() if name in named else []:
+            lines = text.split("\n")
+            kept = [lines[0]]
+            for line in lines[1:]:
+                if re.match(r" *(unfolding |where|%s[ =])" % re.escape(name), line) and "record" not in lines[0]:
+                    break
+                kept.append(line)
+            if ":" in lines[0] or "record" in lines[0]:
+                put(found, crate, name, module, "\n".join(kept))
     return found
 
 
@@ -127,14 +141,14 @@ def pages(commit):
 
 def show(title, old, new):
     print(f"### {title}\n")
-    for sort, keys in (("changed", [k for k in old if k in new and plain(old[k][1]) != plain(new[k][1])]),
-                       ("no longer there under that name", [k for k in old if k not in new])):
-        print(f"{len(keys)} {sort}.\n")
-        for crate, name in sorted(keys):
-            before, after = old.get((crate, name)), new.get((crate, name))
+    items = [(crate, name, before, after) for crate, name, before, after in pairs(old, new) if before]
+    for sort, some in (("changed", [i for i in items if i[3] and plain(i[2][1]) != plain(i[3][1])]),
+                       ("no longer there under that name", [i for i in items if not i[3]])):
+        print(f"{len(some)} {sort}.\n")
+        for crate, name, before, after in some:
             place = f"{crate}::{(after or before)[0]}" if "fn" in title or "signature" in title else f"{crate}/{(after or before)[0]}"
             print(f"`{place}`, {name}\n\n```diff")
-            for line in before[1].split("\n") if before else []:
+            for line in before[1].split("\n"):
                 print("- " + line)
             for line in after[1].split("\n") if after else []:
                 print("+ " + line)

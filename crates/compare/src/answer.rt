@@ -1,33 +1,24 @@
 // What is answered to the input, and the line that says it.
 ghost use Rattle.std.specs.Prelude.{◌≡◌};
-ghost use Rattle.compare.specs.Program.{line_bytes, Compared, Answered, Printed};
+ghost use Rattle.compare.specs.Program.{line_bytes, Answered, Printed};
 
 use comparison::compare;
 use comparison::compare::Answer;
 use input::refused::Refused;
-use input::{cut, limits, line};
+use input::{limits, line, reply};
 use text::line::Line;
 
-// The answer to two sheets, with space for the longest rule.
-fn compare_sheets(first: &[u16], second: &[u16]) -> Result<Answer, Refused>
-    ensures { Compared first.now second.now result }
-{
-    let mut space = [0u16; limits::RULE_WORDS];
-    let answer = compare::compare(first, second, &mut space)?;
-    Ok(answer)
-}
-
-// The answer to the bytes of standard input. The four programs alike cut the bytes, and call: a function for the four would take the call
-// as a closure, and say no less.
+// The answer to the bytes of standard input, with space for the longest rule.
 fn answer_to(input: &[u8]) -> Result<Answer, Refused>
     ensures { Answered input.now result }
 {
     let mut words = [0u16; limits::MACHINES_WORDS];
-    let cut = cut::sheets_of(input, &mut words)?;
-    compare_sheets(cut.first(&words), cut.second(&words))
+    let mut space = [0u16; limits::RULE_WORDS];
+    reply::reply_to(input, &mut words, &mut space, compare::compare)
 }
 
 // The line of an answer.
+#[tactic(auto, unfolding(crate::specs::Program::line_bytes))]
 fn line_of(answer: Result<Answer, Refused>) -> Line
     ensures { result ≡ line_bytes answer }
 {

@@ -1,6 +1,6 @@
 -- Blocks in tables: a row parted by two stores, the lines of the two parts, and what the rows tell of a block and two sets.
-use mathlib.Core.Path.{◌≡◌, sym, subst, ap, ◌∙◌}
-use mathlib.Core.Logic.{◌≢◌, inl, inr, ⊎_elim}
+use mathlib.Core.Path.{◌≡◌, sym, subst, ◌∙◌}
+use mathlib.Core.Logic.{inl, inr, ⊎_elim}
 use Prim.Native.Nat.{ℕ, ◌+◌, ◌*◌, ◌≤◌, ◌<◌}
 use native.Mathlib.Omega.{arith}
 use mathlib.Core.List.{List}
@@ -11,36 +11,14 @@ use lib.Seq.{get_or-set_same, get_or-set_other}
 use lib.Dec.{T, T_not, not_T}
 use Rattle.truth.specs.Sizes.{row_words, members_most}
 use Rattle.truth.specs.Passed.{each, within}
-use Rattle.truth.specs.inner.Rows.{held, rows_has}
+use Rattle.truth.specs.inner.Rows.{rows_has}
 use Rattle.truth.proofs.Passed.{and_both, and_left, and_right, surely, find, within_in, each_at, each_in}
 use Rattle.truth.proofs.rows.RowLaws.{held_in}
-use Rattle.truth.proofs.tables.TableLaws.{stored-length, stored_here, stored_other}
-use Rattle.comparison.specs.inner.Sizes.{block_places, block_words}
+use Rattle.comparison.specs.inner.Sizes.{block_places}
 use Rattle.comparison.specs.inner.Blocks.{In, AllIn, Meets, Unsplit, Split}
-use Rattle.comparison.specs.inner.Tables.{PartedRows, LinedBlocks, OfNodes, TellsMeets, TellsSplit}
+use Rattle.comparison.specs.inner.Tables.{LinedBlocks, OfNodes, TellsMeets, TellsSplit}
 
 -- ---- parting
-
-pub parted-rows : (B B₁ B₂ : List ℕ) (count c a b d e : ℕ) (x : ℕ → Bool) → c < count → count < block_places → length B ≡ block_words
-    → B₁ ≡ set (set B (row_words * c) a) (row_words * c + 1) b → B₂ ≡ set (set B₁ (row_words * count) d) (row_words * count + 1) e
-    → ((s : ℕ) → held a b s ≡ (rows_has B c s && x s)) → ((s : ℕ) → held d e s ≡ (rows_has B c s && not (x s))) → PartedRows count c x B B₂
-parted-rows B B₁ B₂ count c a b d e x low high size e₁ e₂ inside outside = record {
-  size = ap length e₂ ∙ stored-length B₁ count d e fits ∙ size₁;
-  parted = record {
-    here = λ s. unchanged c s (λ q. omega arith) ∙ ap (λ (l : List ℕ). rows_has l c s) e₁ ∙ stored_here B c a b (omega arith) s ∙ inside s;
-    added = λ s. ap (λ (l : List ℕ). rows_has l count s) e₂ ∙ stored_here B₁ count d e fits s ∙ outside s;
-    others = λ q s h n. unchanged q s (λ f. omega arith) ∙ ap (λ (l : List ℕ). rows_has l q s) e₁ ∙ stored_other B c a b (omega arith) q s n;
-  };
-}
-  where
-    size₁ : length B₁ ≡ block_words
-    size₁ = ap length e₁ ∙ stored-length B c a b (omega arith) ∙ size
-
-    fits : row_words * count + 1 < length B₁
-    fits = omega (arith, size₁)
-
-    unchanged : (q s : ℕ) → q ≢ count → rows_has B₂ q s ≡ rows_has B₁ q s
-    unchanged q s n = ap (λ (l : List ℕ). rows_has l q s) e₂ ∙ stored_other B₁ count d e fits q s n
 
 pub lined-blocks : (l : List ℕ) (count c n : ℕ) → c < count → count < block_places → length l ≡ block_places
     → LinedBlocks count c n l (set (set l c (n + 4)) count (n + 6))

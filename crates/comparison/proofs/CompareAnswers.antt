@@ -2,8 +2,8 @@
 use mathlib.Core.Path.{◌≡◌, refl}
 use Prim.Native.Nat.{ℕ, ◌+◌, ◌*◌, ◌≤◌, ◌<◌}
 use native.Mathlib.Omega.{arith}
-use mathlib.Core.List.{List, [], ◌∷◌, ◌++◌}
-use lib.ListN.{length, get_or, drop, length-append}
+use mathlib.Core.List.{List, [], ◌∷◌}
+use lib.ListN.{length, get_or, length-append}
 use Rattle.std.specs.Prelude.{Ok, Err}
 use Rattle.truth.specs.Passed.{refusal_of}
 use Rattle.truth.specs.Passed.{Refused as Refusal}
@@ -12,8 +12,8 @@ use Rattle.truth.specs.Passed.{first_no, nodes, signals, nodes_most, line_words,
 use Rattle.truth.specs.inner.Rows.{rows_has}
 use Rattle.truth.proofs.Passed.{nodes-sized}
 use Rattle.comparison.specs.inner.Sizes.{written_space, written_most}
-use Rattle.comparison.specs.inner.Lines.{Entry, neg, sheet, Downward, HoldsLines, Pushed}
-use Rattle.comparison.specs.inner.Needed.{Shortened, Listed}
+use Rattle.comparison.specs.inner.Lines.{Entry, neg, sheet, Downward, HoldsLines, Lists, Pushed}
+use Rattle.comparison.specs.inner.Needed.{Listed, ShortSheet}
 use Rattle.comparison.specs.inner.Refinement.{LinesIn}
 use Rattle.comparison.specs.inner.Stages.{Partitioned}
 use Rattle.std.specs.Prelude.{None, Some}
@@ -47,7 +47,7 @@ module _ (M₁ M₂ before : List ℕ) where
       few-blocks : p.count ≤ nodes M₁ + nodes M₂
       few-blocks =
           let k = known in
-          blocks-few (signals M₁) M₁ M₂ k.first k.second r.ls p.count (λ c. get_or p.line c 0) (rows_has p.first) (rows_has p.second) r.refinement
+          blocks-few (signals M₁) M₁ M₂ k.first k.second r.ls p.count (λ c. get_or p.line c 0) (rows_has p.rows.first) (rows_has p.rows.second) r.refinement
 
       -- the lines and one more fit the space
       pub fits : (p.count ≤ nodes_most) × (next_head + line_words * (p.lines.count + 1) ≤ length before) × (p.lines.count < written_most)
@@ -58,7 +58,7 @@ module _ (M₁ M₂ before : List ℕ) where
           let blocks = few-blocks in
           (omega arith, omega arith, omega arith)
 
-      pub equal-answer : OneSided M₁ M₂ (rows_has p.first) (rows_has p.second) p.count None → CompareAnswer M₁ M₂ before before (Ok Equal)
+      pub equal-answer : OneSided M₁ M₂ (rows_has p.rows.first) (rows_has p.rows.second) p.count None → CompareAnswer M₁ M₂ before before (Ok Equal)
       unfolding Leaves
       equal-answer s =
           let k = known in
@@ -66,14 +66,14 @@ module _ (M₁ M₂ before : List ℕ) where
             refusal = none-refused M₁ M₂ (length before) e;
             leaves = (
               equal M₁ M₂ k.first k.second
-                  (same-rules (signals M₁) M₁ M₂ k.first k.second r.ls p.count (λ c. get_or p.line c 0) (rows_has p.first) (rows_has p.second) r.refinement
+                  (same-rules (signals M₁) M₁ M₂ k.first k.second r.ls p.count (λ c. get_or p.line c 0) (rows_has p.rows.first) (rows_has p.rows.second) r.refinement
                   r.signals-done r.nexts-done s),
               refl,
             );
           }
 
       -- "not" of the line of the block was written below the lines
-      module _ (c : ℕ) (s : OneSided M₁ M₂ (rows_has p.first) (rows_has p.second) p.count (Some c)) (w : Written) (size : length p.lines.words ≡ written_space)
+      module _ (c : ℕ) (s : OneSided M₁ M₂ (rows_has p.rows.first) (rows_has p.rows.second) p.count (Some c)) (w : Written) (size : length p.lines.words ≡ written_space)
           (pushed : Pushed p.lines w (neg (get_or p.line c 0) ∷ [])) where
         told : List Entry
         told = negated r.ls (get_or p.line c 0)
@@ -95,12 +95,14 @@ module _ (M₁ M₂ before : List ℕ) where
         unfolding told
         told-holds = pushed.adds.adds r.ls r.number (record { size = size; stands = rw r.number r.stands })
 
-        pub listed : Listed w.words w.count
-        listed = record { a = signals M₁; lines = told; down = told-down; holds = told-holds; count = told-count }
+        told-lists : Lists (signals M₁) w told
+        told-lists = record { down = told-down; holds = told-holds; count = told-count }
+
+        pub listed : Listed w
+        listed = record { a = signals M₁; lines = told; lists = told-lists }
 
         pub unequal-answer : (after : List ℕ)
-            → ((a : ℕ) (ls : List Entry) → Downward a ls → HoldsLines w.words ls → length ls ≡ w.count
-            → (short : List Entry) × Shortened a ls short × (after ≡ sheet short ++ drop (length (sheet short)) before))
+            → ((a : ℕ) (ls : List Entry) → Lists a w ls → ShortSheet a ls before after)
             → CompareAnswer M₁ M₂ before after (Ok Unequal)
         unfolding Leaves told
         unequal-answer after stands =
@@ -109,15 +111,15 @@ module _ (M₁ M₂ before : List ℕ) where
             let short = r.short in
             let count = told-count in
             let one = pushed.count in
-            let wrote = stands (signals M₁) told told-down told-holds told-count in
-            let fewer = wrote.1.few in
+            let wrote = stands (signals M₁) told told-lists in
+            let fewer = wrote.shortened.few in
             record {
               refusal = none-refused M₁ M₂ (length before) e;
               leaves = (
-                sheet wrote.0,
-                written M₁ M₂ k.first k.second k.same k.few wrote.0 wrote.1.down wrote.1.some (omega arith)
-                    (told-shorter M₁ M₂ k.first k.second (signals M₁) told wrote.0 wrote.1
-                    (unequal (signals M₁) M₁ M₂ k.first k.second r.ls p.count (λ c. get_or p.line c 0) (rows_has p.first) (rows_has p.second) r.refinement c s.0 s.1))
-                    before after wrote.2,
+                sheet wrote.short,
+                written M₁ M₂ k.first k.second k.same k.few wrote.short wrote.shortened.down wrote.shortened.some (omega arith)
+                    (told-shorter M₁ M₂ k.first k.second (signals M₁) told wrote.short wrote.shortened
+                    (unequal (signals M₁) M₁ M₂ k.first k.second r.ls p.count (λ c. get_or p.line c 0) (rows_has p.rows.first) (rows_has p.rows.second) r.refinement c s.0 s.1))
+                    before after wrote.stands,
               );
             }

@@ -7,13 +7,12 @@ use native.Mathlib.Omega.{arith}
 use mathlib.Core.List.{List}
 use mathlib.Core.Bool.{Bool}
 use lib.Dec.{T}
-use Rattle.truth.specs.Passed.{nodes_most}
 use Rattle.comparison.specs.inner.Blocks.{Unsplit, Split}
 use Rattle.comparison.specs.inner.Tables.{first_of, second_of, Room, SplitBlock, OfNodes}
 use Rattle.comparison.specs.declared.blocks.Partition.{Partition}
 use Rattle.comparison.specs.inner.Stages.{Ready, Finer, Kept, Divided}
 use Rattle.comparison.proofs.FinerBlocks.{unsplit-part, unsplit-here, unsplit-added, finer-none, finer-then, finer-split, kept-others}
-use Rattle.comparison.proofs.StagedSplits.{blocks-fit, room, ready-again}
+use Rattle.comparison.proofs.StagedSplits.{room, ready-again}
 
 -- a block that was kept is not split, if it was not
 unsplit-kept : (M₁ M₂ : List ℕ) (st st' : Partition) (d : ℕ) (x₁ x₂ : ℕ → Bool) → Kept st st' d → Unsplit M₁ M₂ (first_of st) (second_of st) d x₁ x₂
@@ -33,10 +32,6 @@ module _ (M₁ M₂ : List ℕ) (st : Partition) (p : ℕ) (x₁ x₂ : ℕ → 
   dividing-none w = record { ready = w; finer = finer-none st; done = λ c h. absurd (omega arith); added = λ c l h. absurd (omega arith) }
 
   module _ (st₁ : Partition) (b : ℕ) (d : Dividing M₁ M₂ st st₁ p x₁ x₂ b) where
-    -- there are as many blocks as came, or more, and numbers for them
-    pub dividing-many : (st.count ≤ st₁.count) × (st₁.count ≤ nodes_most)
-    dividing-many = (d.finer.more, blocks-fit M₁ M₂ 5 st₁ d.ready.staged)
-
     -- block b is not split
     pub dividing-skip : Unsplit M₁ M₂ (first_of st₁) (second_of st₁) b x₁ x₂ → Dividing M₁ M₂ st st₁ p x₁ x₂ (b + 1)
     dividing-skip u = record {

@@ -41,12 +41,12 @@ module _ (M before after : List ℕ) (low high n : ℕ) (size : length before �
 
 pub begun : (M₁ M₂ : List ℕ) → machine_refusal M₁ ≡ 0 → machine_refusal M₂ ≡ 0 → Bounded M₁ M₂
     → (a n₁ n₂ : ℕ) → a ≡ signals M₁ → n₁ ≡ nodes M₁ → n₂ ≡ nodes M₂
-    → (first₀ first second₀ second line : List ℕ) (lines : Written) (l₁ h₁ l₂ h₂ : ℕ) → length first₀ ≡ block_words → length second₀ ≡ block_words → length line ≡ block_places
+    → (first₀ first second₀ second line : List ℕ) (lines : Written) (few : 1 ≤ block_places) (l₁ h₁ l₂ h₂ : ℕ) → length first₀ ≡ block_words → length second₀ ≡ block_words → length line ≡ block_places
     → first ≡ set (set first₀ 0 l₁) 1 h₁ → second ≡ set (set second₀ 0 l₂) 1 h₂
     → ((s : ℕ) → held l₁ h₁ s ≡ (leb s n₁ && within 1 members_most s)) → ((s : ℕ) → held l₂ h₂ s ≡ (leb s n₂ && within 1 members_most s)) → lines.count ≡ a + 2 → HoldsLines lines.words (first_lines a)
-    → Staged M₁ M₂ 5 (record { first = first; second = second; line = set line 0 (a + 2); count = 1; lines = lines })
+    → Staged M₁ M₂ 5 (record { rows = record { first = first; second = second }; line = set line 0 (a + 2); count = 1; lines = lines; few = few })
 unfolding OfNodes
-begun M₁ M₂ ok₁ ok₂ bounded a n₁ n₂ ea e₁ e₂ first₀ first second₀ second line lines l₁ h₁ l₂ h₂ z₁ z₂ z s₁ s₂ r₁ r₂ n holds =
+begun M₁ M₂ ok₁ ok₂ bounded a n₁ n₂ ea e₁ e₂ first₀ first second₀ second line lines few l₁ h₁ l₂ h₂ z₁ z₂ z s₁ s₂ r₁ r₂ n holds =
     let some = signals-sized M₁ ok₁ in
     let few₁ = nodes-sized M₁ ok₁ in
     let few₂ = nodes-sized M₂ ok₂ in

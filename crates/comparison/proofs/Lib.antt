@@ -43,3 +43,4 @@ pub mod NeededMarks
 pub mod NeededLines
 pub mod CopiedLines
 pub mod ShorterRules
+pub mod UnlikeNodes

@@ -46,8 +46,8 @@ pub lines_are : (ls : List Entry) → lines (sheet ls) ≡ length ls
 unfolding word sheet
 lines_are ls = refl
 
--- zeros at the end of a list of words
-pub padded : (p : List ℕ) (n k : ℕ) → length p ≤ k → get_or (p ++ replicate n 0) k 0 ≡ 0
+-- one value at the end of a list, as 0 at the end of words, and past it
+pub padded : {A : Type 0} {v : A} (p : List A) (n k : ℕ) → length p ≤ k → get_or (p ++ replicate n v) k v ≡ v
 padded [] zero k h = refl
 padded [] (suc n) zero h = refl
 padded [] (suc n) (suc k) h = padded [] n k (omega arith)

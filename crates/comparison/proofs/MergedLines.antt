@@ -1,6 +1,7 @@
 -- Lines made one: the line that stands for the next one is true at the same nodes.
-use mathlib.Core.Path.{◌≡◌, sym, subst, ◌∙◌}
-use mathlib.Core.Logic.{◌⊎◌, inl, inr, by_cases}
+use Rattle.std.specs.Prelude.{Option, Some}
+use mathlib.Core.Path.{◌≡◌, sym, subst, ap, ◌∙◌}
+use mathlib.Core.Logic.{◌≢◌, by_cases}
 use Prim.Native.Nat.{ℕ, ◌+◌, ◌≤◌, ◌<◌}
 use native.Mathlib.Omega.{arith}
 use native.Mathlib.Decide.{dec_le, ℕ_discrete}
@@ -9,7 +10,7 @@ use lib.ListN.{length, get_or, set, length-set}
 use lib.Seq.{get_or-set_same, get_or-set_other}
 use Rattle.comparison.specs.inner.Sizes.{written_most, line_places}
 use Rattle.comparison.specs.inner.Lines.{Entry, neg, alt, next, entry, Refers, Downward}
-use Rattle.comparison.specs.inner.Needed.{Same, Opposite, NextOf, Always, Stands, AllStand, Opposed, Followed, Merged}
+use Rattle.comparison.specs.inner.Needed.{Same, Opposite, NextOf, Always, Stands, AllStand, NumberOr, had, new, EitherOf, first, second, both, Opposed, Followed, Merged}
 use Rattle.comparison.proofs.SameTruths.{both-next, both-opposite, either-always, left_alone, next-of-line, opposite-line, opposite_turned, right-alone, same_refl}
 
 -- ---- tables
@@ -31,7 +32,7 @@ stands_set ls i v same size small x lv hv e k lo hi = by_cases (dec_le k i) abov
         subst (λ (n : ℕ). Stands ls (set same (i + 1) v) n) (sym z) (record { low = rw q lv; high = rw q hv; true = rw q e })
 
 module _ (a : ℕ) (ls : List Entry) (down : Downward a ls) (i : ℕ) (inside : i + 1 ≤ length ls) (small : i < written_most)
-    (same other nexts : List ℕ) (top : ℕ) (size : length same ≡ line_places) (size_other : length other ≡ line_places) (size_nexts : length nexts ≡ line_places)
+    (same other nexts : List ℕ) (top : Option ℕ) (size : length same ≡ line_places) (size_other : length other ≡ line_places) (size_nexts : length nexts ≡ line_places)
     (m : Merged ls i same other nexts top) where
   opposed-still : (k : ℕ) → 1 ≤ get_or other k 0 → Opposed ls (i + 1) other k
   opposed-still k h = let o = m.opposed k h in let b = o.high in record { low = o.low; high = omega arith; true = o.true }
@@ -113,10 +114,10 @@ module _ (a : ℕ) (ls : List Entry) (down : Downward a ls) (i : ℕ) (inside : 
     added = record { stands = merged-kept.stands; opposed = paired; followed = followed-still; always = m.always }
 
     pub merged-not : (r : ℕ) (other' : List ℕ)
-        → ((1 ≤ r) × (r ≡ get_or other t 0) × (other' ≡ other)) ⊎ ((r ≡ i + 1) × (other' ≡ set (set other t (i + 1)) (i + 1) t))
+        → NumberOr t (i + 1) (set (set other t (i + 1)) (i + 1) t) other other' r
         → Merged ls (i + 1) (set same (i + 1) r) other' nexts top
-    merged-not r other' (inl x) = rw x.2 (found r x.0 x.1)
-    merged-not r other' (inr x) = rw (x.0, x.1) added
+    merged-not r other' (had low e kept) = rw kept (found r low e)
+    merged-not r other' (new none e put) = rw (e, put) added
 
   -- "some next node has line j"
   module _ (j t : ℕ) (e : entry ls (i + 1) ≡ next j) (at : t ≡ get_or same j 0) where
@@ -168,10 +169,10 @@ module _ (a : ℕ) (ls : List Entry) (down : Downward a ls) (i : ℕ) (inside : 
     first_said : Merged ls (i + 1) (set same (i + 1) (i + 1)) other (set nexts t (i + 1)) top
     first_said = record { stands = merged-kept.stands; opposed = opposed-still; followed = followed-more; always = m.always }
 
-    pub merged-next : (r : ℕ) (nexts' : List ℕ) → ((1 ≤ r) × (r ≡ get_or nexts t 0) × (nexts' ≡ nexts)) ⊎ ((r ≡ i + 1) × (nexts' ≡ set nexts t (i + 1)))
+    pub merged-next : (r : ℕ) (nexts' : List ℕ) → NumberOr t (i + 1) (set nexts t (i + 1)) nexts nexts' r
         → Merged ls (i + 1) (set same (i + 1) r) other nexts' top
-    merged-next r nexts' (inl x) = rw x.2 (said r x.0 x.1)
-    merged-next r nexts' (inr x) = rw (x.0, x.1) first_said
+    merged-next r nexts' (had low e kept) = rw kept (said r low e)
+    merged-next r nexts' (new none e put) = rw (e, put) first_said
 
   -- "line j or line k"
   module _ (j k x y : ℕ) (e : entry ls (i + 1) ≡ alt j k) (atx : x ≡ get_or same j 0) (aty : y ≡ get_or same k 0) where
@@ -205,73 +206,62 @@ module _ (a : ℕ) (ls : List Entry) (down : Downward a ls) (i : ℕ) (inside : 
     y-true : Same ls k ls y
     y-true = rw aty right.true
 
-    stood : (r : ℕ) → ((x ≡ get_or other top 0) × (r ≡ y)) ⊎ (((y ≡ get_or other top 0) × (r ≡ x)) ⊎ (r ≡ i + 1)) → AllStand ls (i + 1) (set same (i + 1) r)
-    stood r (inl (p, q)) =
-        let h : 1 ≤ get_or other top 0 = rw p at x-low in
-        let o = m.opposed top h in
+    stood : (r : ℕ) → EitherOf other top x y (i + 1) r → AllStand ls (i + 1) (set same (i + 1) r)
+    stood r (second t e' p q) =
+        let h : 1 ≤ get_or other t 0 = rw p at x-low in
+        let o = m.opposed t h in
         let b = y-high in
         rw q
         (stands_set ls i y same size small m.stands y-low (omega arith)
-        (right-alone a ls down (i + 1) (omega arith) inside j k x y e x-true y-true top (m.always o.low) (rw p o.true)))
-    stood r (inr (inl (p, q))) =
-        let h : 1 ≤ get_or other top 0 = rw p at y-low in
-        let o = m.opposed top h in
+        (right-alone a ls down (i + 1) (omega arith) inside j k x y e x-true y-true t (m.always t e') (rw p o.true)))
+    stood r (first t e' p q) =
+        let h : 1 ≤ get_or other t 0 = rw p at y-low in
+        let o = m.opposed t h in
         let b = x-high in
         rw q
         (stands_set ls i x same size small m.stands x-low (omega arith)
-        (left_alone a ls down (i + 1) (omega arith) inside j k x y e x-true y-true top (m.always o.low) (rw p o.true)))
-    stood r (inr (inr q)) = rw q merged-kept.stands
+        (left_alone a ls down (i + 1) (omega arith) inside j k x y e x-true y-true t (m.always t e') (rw p o.true)))
+    stood r (both q) = rw q merged-kept.stands
 
-    always-now : (u : ℕ) → ((get_or other x 0 ≡ y) × (u ≡ i + 1)) ⊎ (u ≡ top) → 1 ≤ u → Always ls u
-    always-now u (inl (p, q)) h =
+    always-now : (u : Option ℕ) → (get_or other x 0 ≡ y → u ≡ Some (i + 1)) → (get_or other x 0 ≢ y → u ≡ top) → (t : ℕ) → u ≡ Some t → Always ls t
+    always-now u found kept t h = by_cases (ℕ_discrete (get_or other x 0) y)
+        (λ p.
         let l : 1 ≤ get_or other x 0 = rw p y-low in
         let o = m.opposed x l in
         let b = y-high in
-        rw q (either-always a ls down (i + 1) (omega arith) inside j k x y e x-true y-true y-low (omega arith) (rw p at o.true))
-    always-now u (inr q) h = rw q (m.always (rw q at h))
+        let q : t ≡ i + 1 = cc (found p) in
+        rw q (either-always a ls down (i + 1) (omega arith) inside j k x y e x-true y-true y-low (omega arith) (rw p at o.true)))
+        (λ n. m.always t (sym (kept n) ∙ h))
 
-    pub merged-or : (r u : ℕ) → ((x ≡ get_or other top 0) × (r ≡ y)) ⊎ (((y ≡ get_or other top 0) × (r ≡ x)) ⊎ (r ≡ i + 1))
-        → ((get_or other x 0 ≡ y) × (u ≡ i + 1)) ⊎ (u ≡ top) → Merged ls (i + 1) (set same (i + 1) r) other nexts u
-    merged-or r u p q = record { stands = stood r p; opposed = opposed-still; followed = followed-still; always = always-now u q }
-
--- nothing is done yet
-pub merged-none : (ls : List Entry) (same other nexts : List ℕ) → ((k : ℕ) → get_or other k 0 ≡ 0) → ((k : ℕ) → get_or nexts k 0 ≡ 0)
-    → Merged ls 0 same other nexts 0
-merged-none ls same other nexts z w = record {
-  stands = λ k lo hi. absurd (omega arith);
-  opposed = λ k h. absurd (omega (arith, z k));
-  followed = λ k h. absurd (omega (arith, w k));
-  always = λ h. absurd (omega arith);
-}
+    pub merged-or : (r : ℕ) (u : Option ℕ) → EitherOf other top x y (i + 1) r → (get_or other x 0 ≡ y → u ≡ Some (i + 1)) → (get_or other x 0 ≢ y → u ≡ top)
+        → Merged ls (i + 1) (set same (i + 1) r) other nexts u
+    merged-or r u p found kept = record { stands = stood r p; opposed = opposed-still; followed = followed-still; always = always-now u found kept }
 
 -- ---- the next line, i, below n lines
 
 module _ (a : ℕ) (ls : List Entry) (down : Downward a ls) (n i : ℕ) (e : i ≡ n + 1) (inside : i ≤ length ls) (small : i ≤ written_most)
-    (same other nexts same' : List ℕ) (top : ℕ) (size : length same ≡ line_places) (size_other : length other ≡ line_places) (size_nexts : length nexts ≡ line_places)
+    (same other nexts same' : List ℕ) (top : Option ℕ) (size : length same ≡ line_places) (size_other : length other ≡ line_places) (size_nexts : length nexts ≡ line_places)
     (m : Merged ls n same other nexts top) where
   pub next-kept : same' ≡ set same i i → Merged ls i same' other nexts top
   next-kept s = rw (s, e) (merged-kept a ls down n (omega arith) (omega arith) same other nexts top size size_other size_nexts m)
 
   pub next-not : (j t r : ℕ) (other' : List ℕ) → entry ls i ≡ neg j → t ≡ get_or same j 0
-      → ((1 ≤ r) × (r ≡ get_or other t 0) × (other' ≡ other)) ⊎ ((r ≡ i) × (other' ≡ set (set other t i) i t))
-      → same' ≡ set same i r → Merged ls i same' other' nexts top
+      → NumberOr t i (set (set other t i) i t) other other' r → same' ≡ set same i r → Merged ls i same' other' nexts top
   next-not j t r other' h at x s =
       rw (s, e)
       (merged-not a ls down n (omega arith) (omega arith) same other nexts top size size_other size_nexts m j t (rw e at h) at r other'
-      (subst (λ (k : ℕ). ((1 ≤ r) × (r ≡ get_or other t 0) × (other' ≡ other)) ⊎ ((r ≡ k) × (other' ≡ set (set other t k) k t))) e x))
+      (rw e at x))
 
   pub next-next : (j t r : ℕ) (nexts' : List ℕ) → entry ls i ≡ next j → t ≡ get_or same j 0
-      → ((1 ≤ r) × (r ≡ get_or nexts t 0) × (nexts' ≡ nexts)) ⊎ ((r ≡ i) × (nexts' ≡ set nexts t i)) → same' ≡ set same i r → Merged ls i same' other nexts' top
+      → NumberOr t i (set nexts t i) nexts nexts' r → same' ≡ set same i r → Merged ls i same' other nexts' top
   next-next j t r nexts' h at x s =
       rw (s, e)
       (merged-next a ls down n (omega arith) (omega arith) same other nexts top size size_other size_nexts m j t (rw e at h) at r nexts'
-      (subst (λ (k : ℕ). ((1 ≤ r) × (r ≡ get_or nexts t 0) × (nexts' ≡ nexts)) ⊎ ((r ≡ k) × (nexts' ≡ set nexts t k))) e x))
+      (rw e at x))
 
-  pub next-or : (j k x y r u : ℕ) → entry ls i ≡ alt j k → x ≡ get_or same j 0 → y ≡ get_or same k 0
-      → ((x ≡ get_or other top 0) × (r ≡ y)) ⊎ (((y ≡ get_or other top 0) × (r ≡ x)) ⊎ (r ≡ i))
-      → ((get_or other x 0 ≡ y) × (u ≡ i)) ⊎ (u ≡ top) → same' ≡ set same i r → Merged ls i same' other nexts u
-  next-or j k x y r u h atx aty p q s =
+  pub next-or : (j k x y r : ℕ) (u : Option ℕ) → entry ls i ≡ alt j k → x ≡ get_or same j 0 → y ≡ get_or same k 0 → EitherOf other top x y i r
+      → (get_or other x 0 ≡ y → u ≡ Some i) → (get_or other x 0 ≢ y → u ≡ top) → same' ≡ set same i r → Merged ls i same' other nexts u
+  next-or j k x y r u h atx aty p found kept s =
       rw (s, e)
       (merged-or a ls down n (omega arith) (omega arith) same other nexts top size size_other size_nexts m j k x y (rw e at h) atx aty r u
-      (subst (λ (z : ℕ). ((x ≡ get_or other top 0) × (r ≡ y)) ⊎ (((y ≡ get_or other top 0) × (r ≡ x)) ⊎ (r ≡ z))) e p)
-      (subst (λ (z : ℕ). ((get_or other x 0 ≡ y) × (u ≡ z)) ⊎ (u ≡ top)) e q))
+      (rw e at p) (λ q. found q ∙ ap Some e) kept)

@@ -6,13 +6,14 @@ use Prim.Native.Nat.{ℕ, zero, suc, ◌+◌, ◌≤◌, ◌<◌}
 use native.Mathlib.Omega.{arith}
 use native.Mathlib.Decide.{dec_le, ℕ_discrete}
 use mathlib.Core.List.{List, [], ◌∷◌, ◌++◌}
+use mathlib.Core.Bool.{Bool, false}
 use lib.ListN.{length, get_or, set, length-append}
 use lib.Seq.{get_or-set_same, get_or-set_other}
 use Rattle.comparison.specs.inner.Sizes.{written_space, written_most, line_places}
 use Rattle.truth.specs.Passed.{nodes, machine_refusal, signals_most}
-use Rattle.comparison.specs.inner.Lines.{Entry, entry, Downward, HoldsLines, Adds}
+use Rattle.comparison.specs.inner.Lines.{Entry, entry, Downward, Adds}
 use Rattle.comparison.specs.inner.Blocks.{TrueIn}
-use Rattle.comparison.specs.inner.Needed.{renumber, EachLine, SomeLine, Same, AllStand, Wanted, Closed, Copied, Needs, itself, through, Shortened}
+use Rattle.comparison.specs.inner.Needed.{renumber, EachLine, SomeLine, Same, AllStand, IsMarked, Wanted, Closed, Copied, Needs, itself, through, ShortLines}
 use Rattle.comparison.proofs.TrueLines.{true-says}
 use Rattle.comparison.proofs.AddedLines.{entry-above, entry-one, down-one, true-kept}
 use Rattle.comparison.proofs.HeldLines.{holds-none}
@@ -21,7 +22,7 @@ use Rattle.comparison.proofs.SameTruths.{same_then}
 
 -- ---- copies
 
-pub copied_none : (a : ℕ) (ls : List Entry) (same needed number out : List ℕ) → a ≤ signals_most → length out ≡ written_space → Copied a ls same needed 0 number out 0
+pub copied_none : (a : ℕ) (ls : List Entry) (same : List ℕ) (needed : List Bool) (number out : List ℕ) → a ≤ signals_most → length out ≡ written_space → Copied a ls same needed 0 number out 0
 copied_none a ls same needed number out few size = record {
   lines = [];
   count = refl;
@@ -35,10 +36,10 @@ copied_none a ls same needed number out few size = record {
   refers = λ m lo hi. absurd (omega arith);
 }
 
-module _ (a : ℕ) (ls : List Entry) (down : Downward a ls) (same needed : List ℕ) (stands : AllStand ls (length ls) same) (i : ℕ) (inside : i + 1 ≤ length ls) (small : i < written_most)
+module _ (a : ℕ) (ls : List Entry) (down : Downward a ls) (same : List ℕ) (needed : List Bool) (stands : AllStand ls (length ls) same) (i : ℕ) (inside : i + 1 ≤ length ls) (small : i < written_most)
     (number out : List ℕ) (c : ℕ) (size : length number ≡ line_places) (x : Copied a ls same needed i number out c) where
   -- a line that is not needed
-  pub copied-skipped : get_or needed (i + 1) 0 ≡ 0 → Copied a ls same needed (i + 1) number out c
+  pub copied-skipped : get_or needed (i + 1) false ≡ false → Copied a ls same needed (i + 1) number out c
   copied-skipped z = record {
     lines = x.lines;
     count = x.count;
@@ -47,16 +48,16 @@ module _ (a : ℕ) (ls : List Entry) (down : Downward a ls) (same needed : List 
     low = λ k lo hi m. x.low k lo (earlier k hi m) m;
     high = λ k lo hi m. x.high k lo (earlier k hi m) m;
     true = λ k lo hi m. x.true k lo (earlier k hi m) m;
-    last = λ lo m. absurd (omega arith);
+    last = λ lo m. cc;
     whence = λ n lo hi. let w = x.whence n lo hi in let b = w.2 in (w.0, w.1, omega arith, w.3, w.4);
     refers = λ m lo hi need. x.refers m lo (earlier m hi need) need;
   }
     where
-      earlier : (k : ℕ) → k ≤ i + 1 → 1 ≤ get_or needed k 0 → k ≤ i
-      earlier k hi m = by_cases (ℕ_discrete k (i + 1)) (λ q. absurd (omega (arith, ap (λ (r : ℕ). get_or needed r 0) q))) (λ q. omega arith)
+      earlier : (k : ℕ) → k ≤ i + 1 → IsMarked needed k → k ≤ i
+      earlier k hi m = by_cases (ℕ_discrete k (i + 1)) (λ q. cc) (λ q. omega arith)
 
   -- a needed one
-  module _ (need : 1 ≤ get_or needed (i + 1) 0) (refs : EachLine (λ r. 1 ≤ get_or needed (get_or same r 0) 0) (entry ls (i + 1))) where
+  module _ (need : IsMarked needed (i + 1)) (refs : EachLine (λ r. IsMarked needed (get_or same r 0)) (entry ls (i + 1))) where
     g : ℕ → ℕ
     g r = get_or number (get_or same r 0) 0
 
@@ -75,7 +76,7 @@ module _ (a : ℕ) (ls : List Entry) (down : Downward a ls) (same needed : List 
         let n = x.count in
         down-one a x.lines new x.down
         (refers-renumbered a (i + 1) (length x.lines + 1) g (entry ls (i + 1)) (down.refers (i + 1) (omega arith) inside)
-        (each-also (λ r. (1 ≤ r) × (r < i + 1)) (λ r. 1 ≤ get_or needed (get_or same r 0) 0) (λ r. (1 ≤ g r) × (g r < length x.lines + 1))
+        (each-also (λ r. (1 ≤ r) × (r < i + 1)) (λ r. IsMarked needed (get_or same r 0)) (λ r. (1 ≤ g r) × (g r < length x.lines + 1))
         (λ r p q.
         let st = stands r p.0 (omega arith) in
         let lo = st.low in
@@ -95,7 +96,7 @@ module _ (a : ℕ) (ls : List Entry) (down : Downward a ls) (same needed : List 
     agree : (M : List ℕ) → machine_refusal M ≡ 0 → EachLine (λ r. (u : ℕ) → 1 ≤ u → u ≤ nodes M → TrueIn M ls r u ↔ TrueIn M lines' (g r) u) (entry ls (i + 1))
     unfolding Same g
     agree M ok =
-        each-also (λ r. (1 ≤ r) × (r < i + 1)) (λ r. 1 ≤ get_or needed (get_or same r 0) 0) (λ r. (u : ℕ) → 1 ≤ u → u ≤ nodes M → TrueIn M ls r u ↔ TrueIn M lines' (g r) u)
+        each-also (λ r. (1 ≤ r) × (r < i + 1)) (λ r. IsMarked needed (get_or same r 0)) (λ r. (u : ℕ) → 1 ≤ u → u ≤ nodes M → TrueIn M ls r u ↔ TrueIn M lines' (g r) u)
         (λ r p q.
         let st = stands r p.0 (omega arith) in
         let lo = st.low in
@@ -147,7 +148,7 @@ module _ (a : ℕ) (ls : List Entry) (down : Downward a ls) (same needed : List 
             some-each (λ r. (1 ≤ r) × (r < m)) (λ r. get_or same r 0 ≡ k) (λ r p q. let b = (stands r p.0 (omega arith)).high in omega arith) (entry ls m)
             (each-above a m (entry ls m) (down.refers m lo (omega arith))) w
 
-        kept-refers : (m : ℕ) → 1 ≤ m → m ≤ i → 1 ≤ get_or needed m 0 → (k : ℕ) → SomeLine (λ r. get_or same r 0 ≡ k) (entry ls m)
+        kept-refers : (m : ℕ) → 1 ≤ m → m ≤ i → IsMarked needed m → (k : ℕ) → SomeLine (λ r. get_or same r 0 ≡ k) (entry ls m)
             → SomeLine (λ r. r ≡ get_or number k 0) (entry lines' (get_or number m 0))
         kept-refers m lo hi marked k w =
             let b = x.high m lo hi marked in
@@ -181,7 +182,7 @@ all-needed ls used (suc f) k h lo hi =
     through k u.by u.refers (all-needed ls used f u.by (omega arith) (omega arith) u.inside))
 
 -- line n of the copies is used, if line k, of which it is the copy, is needed by another
-used : (a : ℕ) (ls : List Entry) (same needed number out : List ℕ) (j c : ℕ) (x : Copied a ls same needed j number out c) (k n : ℕ) → get_or number k 0 ≡ n → Wanted ls same j needed k → Used x.lines n
+used : (a : ℕ) (ls : List Entry) (same : List ℕ) (needed : List Bool) (number out : List ℕ) (j c : ℕ) (x : Copied a ls same needed j number out c) (k n : ℕ) → get_or number k 0 ≡ n → Wanted ls same j needed k → Used x.lines n
 used a ls same needed number out j c x k n e w =
     let m = get_or number w.by 0 in
     let low = x.low w.by w.low w.high w.marked in
@@ -196,8 +197,8 @@ used a ls same needed number out j c x k n e w =
     }
 
 -- the lines that the last line needs
-pub shortened : (a : ℕ) (ls : List Entry) (same needed number out : List ℕ) (j c : ℕ) → 1 ≤ length ls → AllStand ls (length ls) same → j ≡ get_or same (length ls) 0
-    → Closed ls same 0 j needed → c ≤ j → Copied a ls same needed j number out c → (short : List Entry) × Shortened a ls short × HoldsLines out short × (length short ≡ c)
+pub shortened : (a : ℕ) (ls : List Entry) (same : List ℕ) (needed : List Bool) (number out : List ℕ) (j c : ℕ) → 1 ≤ length ls → AllStand ls (length ls) same → j ≡ get_or same (length ls) 0
+    → Closed ls same 0 j needed → c ≤ j → Copied a ls same needed j number out c → ShortLines a ls out c
 shortened a ls same needed number out j c some stands e closed few x =
     let st = stands (length ls) some (omega arith) in
     let l : 1 ≤ j = rw e st.low in
@@ -205,18 +206,19 @@ shortened a ls same needed number out j c some stands e closed few x =
     let need = closed.last in
     let low = x.low j l (omega arith) need in
     let last = x.last l need in
-    let n = x.count in (
-      x.lines,
-      record {
+    let n = x.count in
+    record {
+      short = x.lines;
+      shortened = record {
         down = x.down;
         some = omega arith;
         few = omega arith;
         same = rw (n, ← last) (same_then ls ls x.lines (length ls) j (get_or number j 0) (rw e st.true) (x.true j l (omega arith) need));
         needed = λ k. all-needed x.lines every (length x.lines) k (omega arith);
-      },
-      x.holds,
-      n,
-    )
+      };
+      holds = x.holds;
+      count = n;
+    }
   where
     by-need : (n : ℕ) → n < length x.lines → (k : ℕ) → get_or number k 0 ≡ n → (k ≡ j) ⊎ Wanted ls same j needed k → Used x.lines n
     by-need n hi k q (inl z) =

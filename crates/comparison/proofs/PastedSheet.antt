@@ -1,30 +1,20 @@
--- Words pasted into the lent space: some of a list, and the sheet that its head and its lines make.
+-- The sheet that a head and lines, pasted into the lent space, make.
 use mathlib.Core.Path.{◌≡◌, refl, sym, ap, ap₂, ◌∙◌}
-use Prim.Native.Nat.{ℕ, ◌+◌, ◌*◌, ◌≤◌}
+use Prim.Native.Nat.{ℕ, ◌+◌, ◌*◌}
 use native.Mathlib.Omega.{arith}
 use mathlib.Core.List.{List, ◌++◌}
-use lib.ListN.{length, set, take, drop}
-use lib.Seq.{paste, length-take-le, take-take, take_at, drop_at, drop-drop}
+use lib.ListN.{length, take, drop}
+use lib.Seq.{paste, take_at, drop_at, drop-drop}
 use Rattle.truth.specs.Passed.{line_words, next_head}
 use Rattle.comparison.specs.Comparison.{next_words, rule_head}
 use Rattle.comparison.specs.inner.Lines.{Entry, written_words, sheet, HoldsLines}
 use Rattle.comparison.proofs.Lines.{length-sheet}
-
--- the words that are taken, all of them
-pub pasted-part : (d : List ℕ) (at : ℕ) (s : List ℕ) (n : ℕ) → n ≤ length s → paste d at (take n s) (length (take n s)) ≡ paste d at s n
-pasted-part d at s n h =
-    ap (paste d at (take n s)) (length-take-le n s h) ∙ ap (λ (r : List ℕ). (take at d ++ r) ++ drop (at + n) d) (take-take n n s (omega arith))
 
 -- ---- a space of words with a head, then the words of n lines
 
 head-length : (l : ℕ) → length (rule_head l) ≡ next_head
 unfolding next_words
 head-length l = refl
-
--- the constant words, with the number of lines put in
-pub head-put : (S S₁ : List ℕ) (n : ℕ) → S₁ ≡ paste S 0 (rule_head 0) next_head → set S₁ 3 n ≡ rule_head n ++ drop next_head S
-unfolding next_words
-head-put S S₁ n e = rw e
 
 -- the words of so many lines
 pub held : {w : List ℕ} {ls : List Entry} {n : ℕ} → HoldsLines w ls → length ls ≡ n → take (line_words * n) w ≡ written_words ls

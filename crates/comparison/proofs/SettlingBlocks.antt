@@ -1,4 +1,4 @@
--- Settling: the loop over the signals, the loop of turns by "some next" of the blocks, and what is left at the end.
+-- Settling: the loop over the signals, and the loop of turns by "some next" of the blocks.
 use mathlib.Core.Path.{◌≡◌, sym, subst}
 use mathlib.Core.Logic.{◌≢◌, by_cases}
 use Prim.Native.Nat.{ℕ, ◌+◌, ◌-◌, ◌≤◌, ◌<◌}
@@ -9,7 +9,7 @@ use Rattle.truth.specs.Passed.{kripke, signals, nodes_most}
 use Rattle.comparison.specs.inner.Blocks.{Unsplit}
 use Rattle.comparison.specs.inner.Tables.{first_of, second_of}
 use Rattle.comparison.specs.declared.blocks.Partition.{Partition}
-use Rattle.comparison.specs.inner.Stages.{Staged, Divided, Signalled, Settled, Partitioned}
+use Rattle.comparison.specs.inner.Stages.{Staged, Divided, Signalled, Settled}
 use Rattle.comparison.specs.inner.Signatures.{Turned}
 use Rattle.comparison.proofs.StagedSplits.{blocks-fit}
 use Rattle.comparison.proofs.FinerBlocks.{unsplit-finer}
@@ -21,9 +21,6 @@ pub record SignalsBelow (M₁ M₂ : List ℕ) (st : Partition) (i : ℕ) : Type
   pub done : (c j : ℕ) → c < st.count → 1 ≤ j → j < i → Unsplit M₁ M₂ (first_of st) (second_of st) c ((kripke M₁).signal j) ((kripke M₂).signal j)
 
 module _ (M₁ M₂ : List ℕ) (st : Partition) where
-  pub signals-none : Staged M₁ M₂ 5 st → SignalsBelow M₁ M₂ st 1
-  signals-none s = record { staged = s; done = λ c j h lo hi. absurd (omega arith) }
-
   pub signals-more : (st' : Partition) (i : ℕ) → SignalsBelow M₁ M₂ st i → Divided M₁ M₂ st st' ((kripke M₁).signal i) ((kripke M₂).signal i) → SignalsBelow M₁ M₂ st' (i + 1)
   signals-more st' i s d = record { staged = d.staged; done = done }
     where
@@ -53,19 +50,3 @@ module _ (M₁ M₂ : List ℕ) (st st' : Partition) (t : Turned M₁ M₂ st st
   -- another has fewer blocks that may still come
   pub turns-fewer : st'.count ≢ st.count → nodes_most - st'.count < nodes_most - st.count
   turns-fewer n = omega (arith, n, t.finer.more, blocks-fit M₁ M₂ 5 st' t.staged)
-
--- ---- the end
-
-pub partitioned : (M₁ M₂ : List ℕ) (p : Partition)
-    → Settled M₁ M₂ p → Partitioned M₁ M₂ p
-partitioned M₁ M₂ p s =
-    let w = s.signalled.staged in
-    record {
-      ls = w.ls;
-      number = w.number;
-      stands = rw w.number at w.holds.stands;
-      refinement = w.refinement;
-      short = w.short;
-      signals-done = s.signalled.signals-done;
-      nexts-done = s.nexts-done;
-    }

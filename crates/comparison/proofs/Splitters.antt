@@ -11,6 +11,7 @@ use Rattle.truth.specs.Sizes.{members_most}
 use Rattle.truth.specs.Passed.{kripke, nodes, signals, within, nodes_most}
 use Rattle.truth.specs.inner.Rows.{leads_into}
 use Rattle.truth.proofs.Passed.{passed, within_in, nodes-sized}
+use Rattle.comparison.specs.inner.Sizes.{block_places}
 use Rattle.comparison.specs.inner.Lines.{Entry, next, Pushed}
 use Rattle.comparison.specs.inner.Blocks.{Exact}
 use Rattle.comparison.specs.inner.Tables.{first_of, second_of, line_of, written}
@@ -88,9 +89,9 @@ signal-ready M₁ M₂ st w i lo hi x₁ x₂ e₁ e₂ =
 
 -- ---- some next of the sets where line l is true
 module _ (M₁ M₂ : List ℕ) (st : Partition) (w : Staged M₁ M₂ 5 st) (l : ℕ) (lo : 1 ≤ l) (hi : l ≤ length w.ls) (more' : Written)
-    (pushed : Pushed st.lines more' (next l ∷ [])) where
+    (few : st.count ≤ block_places) (pushed : Pushed st.lines more' (next l ∷ [])) where
   -- its line is written
-  staged-written : Staged M₁ M₂ 4 (written st more')
+  staged-written : Staged M₁ M₂ 4 (written st more' few)
   staged-written =
       let r = w.refinement in
       let more = next l ∷ [] in
@@ -119,7 +120,7 @@ module _ (M₁ M₂ : List ℕ) (st : Partition) (w : Staged M₁ M₂ 5 st) (l 
 
   module _ (q₁ q₂ x₁ x₂ : ℕ → Bool) (e₁ : Exact M₁ w.ls l q₁) (e₂ : Exact M₂ w.ls l q₂)
       (same₁ : (s : ℕ) → 1 ≤ s → s ≤ nodes M₁ → x₁ s ≡ leads_into M₁ q₁ s) (same₂ : (t : ℕ) → 1 ≤ t → t ≤ nodes M₂ → x₂ t ≡ leads_into M₂ q₂ t) where
-    pub ready-written : Ready M₁ M₂ 4 (written st more') more'.count x₁ x₂
+    pub ready-written : Ready M₁ M₂ 4 (written st more' few) more'.count x₁ x₂
     unfolding staged-written
     ready-written =
         let down = w.refinement.down in

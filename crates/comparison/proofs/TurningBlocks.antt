@@ -5,22 +5,21 @@ use Prim.Native.Nat.{ℕ, ◌+◌, ◌-◌, ◌≤◌, ◌<◌}
 use native.Mathlib.Decide.{ℕ_discrete}
 use native.Mathlib.Omega.{arith}
 use mathlib.Core.List.{List, [], ◌∷◌}
-use mathlib.Core.Bool.{Bool, ◌&&◌, ◌||◌}
-use lib.Dec.{T, leb, eqb, eqb_refl, le→leb}
-use Rattle.truth.specs.Sizes.{members_most}
-use Rattle.truth.specs.Passed.{nodes, within, nodes_most}
-use Rattle.truth.specs.inner.Rows.{marks_into, leads_into}
-use Rattle.truth.proofs.Passed.{and_both, or_left, or_right, within_in}
-use Rattle.truth.proofs.rows.RowLaws.{held_in}
+use mathlib.Core.Bool.{Bool}
+use lib.Dec.{T}
+use Rattle.truth.specs.Passed.{nodes, nodes_most}
+use Rattle.truth.specs.inner.Rows.{leads_into}
+use Rattle.truth.specs.inner.Marks.{marks_into, MarkedRow}
+use Rattle.comparison.specs.inner.Sizes.{block_places}
 use Rattle.comparison.specs.inner.Lines.{next, Pushed}
 use Rattle.comparison.specs.inner.Blocks.{In, Meets, Unsplit, Split}
 use Rattle.comparison.specs.inner.Refinement.{LinesIn}
-use Rattle.comparison.specs.inner.Tables.{first_of, second_of, line_of, written, Room, SplitBlock, OfNodes}
+use Rattle.comparison.specs.inner.Tables.{first_of, second_of, line_of, written, Room, SplitBlock}
 use Rattle.comparison.specs.declared.blocks.Partition.{Partition}
 use Rattle.comparison.specs.inner.Stages.{Staged, Ready, Finer}
 use Rattle.comparison.specs.declared.writing.Written.{Written}
-use Rattle.std.specs.Prelude.{None, Some}
-use Rattle.comparison.specs.inner.Signatures.{MarkedRow, BlockMarks, MarksIn, TellsMark, Turned}
+use Rattle.std.specs.Prelude.{Option, None, Some}
+use Rattle.comparison.specs.inner.Signatures.{BlockMarks, TellsMark}
 use Rattle.comparison.proofs.FinerBlocks.{unsplit-as, split-as, finer-none, finer-then, finer-split}
 use Rattle.comparison.proofs.StagedSplits.{blocks-fit, room, ready-again}
 use Rattle.comparison.proofs.Splitters.{ready-written}
@@ -31,35 +30,29 @@ four : 4 ≤ 4
 four = omega arith
 
 -- st has become st', whose blocks have their marks; and if it has no block more, no "some next" of a block splits a block before c
-pub record Turning (M₁ M₂ : List ℕ) (st st' : Partition) (mark₁ mark₂ : List ℕ) (all : ℕ → Bool) (c : ℕ) : Type 0 where
+pub record Turning (M₁ M₂ : List ℕ) (st st' : Partition) (mark₁ mark₂ : List (Option ℕ)) (c : ℕ) : Type 0 where
   pub staged : Staged M₁ M₂ 5 st'
   pub finer : Finer st st'
   pub marked₁ : BlockMarks (first_of st') st'.count mark₁
   pub marked₂ : BlockMarks (second_of st') st'.count mark₂
-  pub every : (e : ℕ) → 1 ≤ e → e ≤ st'.count → T (all e)
   pub high : c ≤ st'.count
   pub done : st'.count ≡ st.count → (b d : ℕ) → b < c → d < st'.count
       → Unsplit M₁ M₂ (first_of st') (second_of st') b (leads_into M₁ (first_of st' d)) (leads_into M₂ (second_of st' d))
 
 module _ (M₁ M₂ : List ℕ) (st : Partition) where
-  pub turning-none : Staged M₁ M₂ 5 st → (mark₁ mark₂ : List ℕ) (all : ℕ → Bool) → BlockMarks (first_of st) st.count mark₁ → BlockMarks (second_of st) st.count mark₂
-      → ((e : ℕ) → all e ≡ (leb e st.count && within 1 members_most e)) → Turning M₁ M₂ st st mark₁ mark₂ all 0
-  turning-none w mark₁ mark₂ all k₁ k₂ q =
-      let fit = blocks-fit M₁ M₂ 5 st w in
+  pub turning-none : Staged M₁ M₂ 5 st → (mark₁ mark₂ : List (Option ℕ)) → BlockMarks (first_of st) st.count mark₁ → BlockMarks (second_of st) st.count mark₂
+      → Turning M₁ M₂ st st mark₁ mark₂ 0
+  turning-none w mark₁ mark₂ k₁ k₂ =
       record {
         staged = w;
         finer = finer-none st;
         marked₁ = k₁;
         marked₂ = k₂;
-        every = λ e lo hi. rw (q e) (and_both (leb e st.count) (within 1 members_most e) (le→leb e st.count hi) (within_in 1 members_most e lo (omega arith)));
         high = omega arith;
         done = λ z b d l h. absurd (omega arith);
       }
 
-  module _ (st' : Partition) (mark₁ mark₂ : List ℕ) (all : ℕ → Bool) (c : ℕ) (t : Turning M₁ M₂ st st' mark₁ mark₂ all c) where
-    pub turning-end : st'.count ≤ c → Turned M₁ M₂ st st'
-    turning-end h = record { staged = t.staged; finer = t.finer; done = λ z b d l k. t.done z b d (omega arith) k }
-
+  module _ (st' : Partition) (mark₁ mark₂ : List (Option ℕ)) (c : ℕ) (t : Turning M₁ M₂ st st' mark₁ mark₂ c) where
     module _ (h : c < st'.count) where
       high₁ : (s : ℕ) → 1 ≤ s → s ≤ nodes M₁ → (e : ℕ) → T (marks_into M₁ mark₁ s e) → (1 ≤ e) × (e ≤ st'.count)
       high₁ s lo hi =
@@ -81,28 +74,13 @@ module _ (M₁ M₂ : List ℕ) (st : Partition) where
           let r = t.staged.refinement.second in
           marks-next M₂ t.staged.accepted₂ (second_of st') st'.count r.covers r.once mark₂ t.marked₂ s lo hi d k (blocks-fit M₁ M₂ 5 st' t.staged)
 
-      pub marks-in : (row₁ row₂ : ℕ → Bool) → ((s : ℕ) → row₁ s ≡ first_of st' c s) → ((s : ℕ) → row₂ s ≡ second_of st' c s) → MarksIn M₁ mark₁ row₁ all × MarksIn M₂ mark₂ row₂ all
-      unfolding MarksIn OfNodes
-      marks-in row₁ row₂ e₁ e₂ =
-          let o = t.staged.of_nodes c h in (
-            λ s e i x.
-                let k : T (first_of st' c s) = rw (e₁ s) at i in
-                let g = high₁ s (held_in _ _ s k).0 (o.0 s k) e x in
-                t.every e g.0 g.1,
-            λ s e i x.
-                let k : T (second_of st' c s) = rw (e₂ s) at i in
-                let g = high₂ s (held_in _ _ s k).0 (o.1 s k) e x in
-                t.every e g.0 g.1,
-          )
-
       -- block c is not split
-      pub turning-on : TellsMark M₁ M₂ (first_of st') (second_of st') mark₁ mark₂ c None → Turning M₁ M₂ st st' mark₁ mark₂ all (c + 1)
+      pub turning-on : TellsMark M₁ M₂ (first_of st') (second_of st') mark₁ mark₂ c None → Turning M₁ M₂ st st' mark₁ mark₂ (c + 1)
       turning-on tells = record {
         staged = t.staged;
         finer = t.finer;
         marked₁ = t.marked₁;
         marked₂ = t.marked₂;
-        every = t.every;
         high = omega arith;
         done = λ q b d l k. by_cases (ℕ_discrete b c)
             (λ i. subst (λ (j : ℕ). Unsplit M₁ M₂ (first_of st') (second_of st') j (leads_into M₁ (first_of st' d)) (leads_into M₂ (second_of st' d))) (sym i)
@@ -141,22 +119,22 @@ module _ (M₁ M₂ : List ℕ) (st : Partition) where
         divides : Split M₁ M₂ (first_of st') (second_of st') c x₁ x₂
         divides = split-as M₁ M₂ (first_of st') (second_of st') c (λ s. marks_into M₁ mark₁ s e) (λ t. marks_into M₂ mark₂ t e) x₁ x₂ at₁ at₂ by-mark
 
-        module _ (more : Written) (pushed : Pushed st'.lines more (next (line_of st' (e - 1)) ∷ [])) where
-          ready : Ready M₁ M₂ 4 (written st' more) more.count x₁ x₂
+        module _ (more : Written) (few : st'.count ≤ block_places) (pushed : Pushed st'.lines more (next (line_of st' (e - 1)) ∷ [])) where
+          ready : Ready M₁ M₂ 4 (written st' more few) more.count x₁ x₂
           unfolding LinesIn
           ready =
               let r = t.staged.refinement in
-              ready-written M₁ M₂ st' t.staged (line_of st' (e - 1)) (r.lines (e - 1) below).0 (r.lines (e - 1) below).1 more pushed
+              ready-written M₁ M₂ st' t.staged (line_of st' (e - 1)) (r.lines (e - 1) below).0 (r.lines (e - 1) below).1 more few pushed
               (first_of st' (e - 1)) (second_of st' (e - 1)) x₁ x₂ (r.first.exact (e - 1) below) (r.second.exact (e - 1) below) (λ s lo hi. refl) (λ s lo hi. refl)
 
-          pub turning-room : Room (written st' more) c
-          turning-room = room M₁ M₂ 4 (written st' more) more.count x₁ x₂ four ready c h divides
+          pub turning-room : Room (written st' more few) c
+          turning-room = room M₁ M₂ 4 (written st' more few) more.count x₁ x₂ four ready c h divides
 
-          pub turning-more : (st'' : Partition) (mark₁' mark₂' : List ℕ) (all' : ℕ → Bool) → SplitBlock (written st' more) st'' c more.count x₁ x₂
-              → MarkedRow (first_of st'' (st''.count - 1)) st''.count mark₁ mark₁' → MarkedRow (second_of st'' (st''.count - 1)) st''.count mark₂ mark₂'
-              → ((i : ℕ) → all' i ≡ (all i || (within 1 members_most st''.count && eqb i st''.count))) → Turning M₁ M₂ st st'' mark₁' mark₂' all' c
-          turning-more st'' mark₁' mark₂' all' b r₁ r₂ q =
-              let now = written st' more in
+          pub turning-more : (st'' : Partition) (mark₁' mark₂' : List (Option ℕ)) → SplitBlock (written st' more few) st'' c more.count x₁ x₂
+              → MarkedRow (first_of st'' (st''.count - 1)) (st''.count - 1 + 1) mark₁ mark₁' → MarkedRow (second_of st'' (st''.count - 1)) (st''.count - 1 + 1) mark₂ mark₂'
+              → Turning M₁ M₂ st st'' mark₁' mark₂' c
+          turning-more st'' mark₁' mark₂' b r₁ r₂ =
+              let now = written st' more few in
               let p = more.count in
               let again = ready-again M₁ M₂ 4 now p x₁ x₂ four ready c h divides st'' b in
               let same_blocks : Finer st now = record { more = t.finer.more; part = t.finer.part } in
@@ -170,14 +148,10 @@ module _ (M₁ M₂ : List ℕ) (st : Partition) where
                 finer = finer-then st now st'' same_blocks (finer-split now st'' c p x₁ x₂ h b);
                 marked₁ = subst (λ (k : ℕ). BlockMarks (first_of st'') k mark₁') (sym one)
                     (marked-split (first_of st') (first_of st'') st'.count c x₁ mark₁ mark₁' h b.first.parted t.marked₁
-                    (rw (last, one) at r₁));
+                    (rw last at r₁));
                 marked₂ = subst (λ (k : ℕ). BlockMarks (second_of st'') k mark₂') (sym one)
                     (marked-split (second_of st') (second_of st'') st'.count c x₂ mark₂ mark₂' h b.second.parted t.marked₂
-                    (rw (last, one) at r₂));
-                every = λ e lo hi. rw (q e) (by_cases (ℕ_discrete e st''.count)
-                    (λ i. or_right (all e) (within 1 members_most st''.count && eqb e st''.count)
-                    (and_both (within 1 members_most st''.count) (eqb e st''.count) (within_in 1 members_most st''.count (omega arith) fit) (subst (λ (k : ℕ). T (eqb e k)) i (eqb_refl e))))
-                    (λ f. or_left (all e) (within 1 members_most st''.count && eqb e st''.count) (t.every e lo (omega arith))));
+                    (rw last at r₂));
                 high = omega arith;
                 done = λ z. absurd (omega arith);
               }

@@ -5,7 +5,6 @@ pub mod Blocks
 pub mod Refinement
 pub mod Tables
 pub mod Bounded
-pub mod Machines
 pub mod Stages
 pub mod Signatures
 pub mod Sides

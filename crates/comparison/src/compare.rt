@@ -1,19 +1,18 @@
 // The comparison: its questions, its answer, and the rule that tells the two machines apart.
-ghost use Rattle.std.specs.Prelude.{◌≡◌, ℕ, ◌+◌, ◌*◌, ◌<◌, ◌≤◌, not, ◌&&◌, List, ◌++◌, length, drop};
+ghost use Rattle.std.specs.Prelude.{◌≡◌, ℕ, ◌+◌, ◌*◌, ◌<◌, ◌≤◌, List, ◌++◌, length, drop};
 ghost use Rattle.std.proofs.Math.Seq.{paste};
 ghost use Rattle.truth.specs.Passed.{Answered};
-ghost use Rattle.truth.specs.Sizes.{members_most};
 ghost use Rattle.truth.specs.Passed.{nodes_most, line_words, next_head};
 ghost use Rattle.truth.specs.Passed as Passed;
 ghost use Rattle.truth.specs.inner.Rows.{row_has, rows_has};
-ghost use Rattle.comparison.specs.inner.Sizes.{written_space, written_most, block_places};
 ghost use Rattle.comparison.specs.Comparison as Comparison;
-ghost use Rattle.comparison.specs.inner.Lines.{Entry, sheet, Downward, HoldsLines};
-ghost use Rattle.comparison.specs.inner.Needed.{Listed, Shortened};
-ghost use Rattle.comparison.specs.inner.Sides.{OneSided};
+ghost use Rattle.comparison.specs.inner.Lines.{Entry, Lists};
+ghost use Rattle.comparison.specs.inner.Needed.{Listed, ShortSheet};
+ghost use Rattle.comparison.specs.inner.Sides.{OneSided, has_start, differ};
 ghost use Rattle.comparison.specs.CompareAnswers.{comparison_questions, CompareAnswer};
 
 use crate::blocks::Partition;
+use crate::machines::{Both, Sets};
 use crate::needed::shorten;
 use crate::refine::refine;
 use crate::sizes;
@@ -84,6 +83,7 @@ fn check_together(m1: &[u16], m2: &[u16], space: usize) -> Result<(), Refusal>
     if nodes > sizes::NODES {
         return Err(Refusal::Call(CallQuestion::Together));
     }
+    // `as u16` narrows no value: the nodes are no more than a table has room for.
     if space < header::rule_space(signals, nodes as u16) {
         return Err(Refusal::Call(CallQuestion::RuleSpace));
     }
@@ -99,28 +99,30 @@ fn check_comparison(m1: &[u16], m2: &[u16], space: usize) -> Result<(), Refusal>
     check_together(m1, m2, space)
 }
 
+// Whether block c has a start node of one machine and none of the other, where the sets are those of the start nodes.
+fn starts_differ(partition: &Partition, c: u16, starts: Sets) -> bool
+    requires { c < partition.now.count }
+    ensures { result ≡ differ (has_start (rows_has partition.now.rows.first c) (row_has starts.first)) (has_start (rows_has partition.now.rows.second c) (row_has starts.second)) }
+{
+    let block = partition.block(c);
+    block.first.meets(starts.first) != block.second.meets(starts.second)
+}
+
 // A block with a start node of one machine only.
 fn one_sided(m1: &[u16], m2: &[u16], partition: &Partition) -> Option<u16>
     requires nodes1 { Passed.nodes m1.now ≤ nodes_most }
     requires nodes2 { Passed.nodes m2.now ≤ nodes_most }
-    requires few { partition.now.count ≤ block_places }
-    ensures { OneSided m1.now m2.now (rows_has partition.now.first) (rows_has partition.now.second) partition.now.count result }
+    ensures { OneSided m1.now m2.now (rows_has partition.now.rows.first) (rows_has partition.now.rows.second) partition.now.count result }
 {
-    let starts1 = structure::start_row(m1);
-    let starts2 = structure::start_row(m2);
-    for c in 0..partition.count {
-        let block = partition.block(c);
-        let has1 = block.first.meets(starts1);
-        let has2 = block.second.meets(starts2);
-        let differ = has1 != has2;
-        if differ {
-            return Some(c);
-        }
-    }
-    None
+    let starts = Both {
+        first: structure::start_row(m1),
+        second: structure::start_row(m2),
+    };
+    (0..partition.count).find(|c| starts_differ(partition, *c, starts))
 }
 
 // The words before the lines, for a rule of n lines.
+#[tactic(auto, unfolding(crate::specs::Comparison::next_words))]
 fn put_head(space: &mut [u16], n: u16)
     requires { next_head ≤ length space.old }
     ensures { space.new ≡ Comparison.rule_head n ++ drop next_head space.old }
@@ -132,7 +134,6 @@ fn put_head(space: &mut [u16], n: u16)
 // The words of the lines.
 fn put_lines(space: &mut [u16], lines: &Written)
     requires fits { next_head + line_words * lines.now.count ≤ length space.old }
-    requires few { lines.now.count ≤ written_most }
     ensures { space.new ≡ paste space.old next_head lines.now.words (line_words * lines.now.count) }
 {
     let n = sizes::LINE_WORDS * lines.count as usize;
@@ -143,9 +144,8 @@ fn put_lines(space: &mut [u16], lines: &Written)
 fn put_sheet(space: &mut [u16], lines: &Written)
     requires fits { next_head + line_words * lines.now.count ≤ length space.old }
     requires some { 1 ≤ lines.now.count }
-    requires few { lines.now.count ≤ written_most }
-    requires listed { Listed lines.now.words lines.now.count }
-    ensures { (a : ℕ) (ls : List Entry) → Downward a ls → HoldsLines lines.now.words ls → length ls ≡ lines.now.count → (short : List Entry) × Shortened a ls short × (space.new ≡ sheet short ++ drop (length (sheet short)) space.old) }
+    requires listed { Listed lines.now }
+    ensures { (a : ℕ) (ls : List Entry) → Lists a lines.now ls → ShortSheet a ls space.old space.new }
 {
     let mut short = Written::new();
     shorten(lines, &mut short);
@@ -154,6 +154,7 @@ fn put_sheet(space: &mut [u16], lines: &Written)
 }
 
 // Compares two machine sheets. Unequal, a rule that exactly one of them keeps is written at the head of the space; otherwise nothing is.
+// The two are not one `Both`, here and in what is called: each clause names its sheet, and callers have two slices.
 pub fn compare(m1: &[u16], m2: &[u16], space: &mut [u16]) -> Result<Answer, Refusal>
     ensures { CompareAnswer m1.now m2.now space.old space.new result }
 {

@@ -1,20 +1,28 @@
 // The two machines that are compared, and what comes of each of them.
 use truth::rows::Row;
-use truth::structure::Tail;
+use truth::structure::Machine;
 
-// A machine sheet, with the tail that its chains share. That it is one is a requirement, `Tailed`: `TailOf` has a choice in it, which a
-// ghost field cannot hold as it stands.
-#[derive(Clone, Copy)]
-pub struct Machine<'a> {
-    pub words: &'a [u16],
-    pub tail: Tail,
-}
-
-// Something of the first machine, and the same of the second.
+// Something of the first machine, and the same of the second. Both lines are written out where two of these are read side by side, or
+// where a proof names what each side is.
 #[derive(Clone, Copy)]
 pub struct Both<T> {
     pub first: T,
     pub second: T,
+}
+
+impl<T: Copy> Both<T> {
+    // What f makes of each.
+    pub fn map<U, F: Fn(T) -> U>(self, f: F) -> Both<U>
+        requires first { F.pre f self.first }
+        requires second { F.pre f self.second }
+        ensures first { F.post f self.first result.first }
+        ensures second { F.post f self.second result.second }
+    {
+        Both {
+            first: f(self.first),
+            second: f(self.second),
+        }
+    }
 }
 
 pub type Machines<'a> = Both<Machine<'a>>;

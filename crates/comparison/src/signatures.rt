@@ -1,100 +1,62 @@
 // Signatures: marks of the blocks on the nodes, the marks that a node's edges lead to, and a mark in which two nodes of a block differ.
-ghost use Rattle.std.specs.Prelude.{◌≡◌, true, ◌&&◌, ◌||◌, ℕ, ◌-◌, ◌≤◌, leb, eqb};
+ghost use Rattle.std.specs.Prelude.{◌≡◌, true, ◌&&◌, ◌||◌, ℕ, ◌+◌, ◌<◌, leb, eqb};
 ghost use Rattle.truth.specs.Sizes.{members_most};
 ghost use Rattle.truth.specs.Passed.{within};
 ghost use Rattle.truth.specs.inner.Rows.{row_has, rows_has, leads_into};
-ghost use Rattle.truth.specs.inner.Targets.{TailOf};
-ghost use Rattle.comparison.specs.inner.Sizes.{block_places};
-ghost use Rattle.comparison.specs.inner.Machines.{Tailed};
-ghost use Rattle.comparison.specs.inner.Signatures.{MarkedRow, BlockMarks, MarksIn, TellsApart, TellsUnlike, TellsOne, Alone, Led, TellsMark};
+ghost use Rattle.truth.specs.inner.Marks.{MarkedRow};
+ghost use Rattle.comparison.specs.inner.Signatures.{BlockMarks, TellsApart, TellsUnlike, TellsOne, Alone, Led, TellsMark};
 ghost use Rattle.comparison.specs.inner.Blocks.{Members};
 
 use crate::blocks::Partition;
-use crate::machines::{Both, Machine, Machines, Sets};
-use crate::sizes;
+use crate::machines::{Both, Machines, Sets};
+use truth::marks::Marks;
 use truth::rows::Row;
-use truth::structure;
-use truth::tables::load;
+use truth::structure::Machine;
 
-// The mark of each node of the two machines, and the marks that there are: a node of block c has the mark c + 1.
-#[derive(Clone, Copy)]
-pub struct Marks {
-    pub first: [u16; sizes::NODE_PLACES],
-    pub second: [u16; sizes::NODE_PLACES],
-    pub all: Row,
-}
-
-// The signature of one node, and the other nodes.
+// The signature of the node of a row that leads, and the other nodes.
 #[derive(Clone, Copy)]
 pub struct Lead {
     pub marks: Row,
-    pub rest: Sets,
+    pub rest: Row,
 }
 
-// Each node of the row gets the mark e.
-fn mark_row(mark: &mut [u16; sizes::NODE_PLACES], row: Row, e: u16)
-    ensures { MarkedRow (row_has row) e mark.old mark.new }
-{
-    for s in row.members() {
-        mark[s as usize] = e;
+impl Partition {
+    // The nodes of block c get their mark, which is c + 1.
+    pub fn mark_block(&self, c: u16, marks: &mut Both<Marks>)
+        requires { c < self.now.count }
+        ensures first { MarkedRow (rows_has self.now.rows.first c) (c + 1) marks.old.first.of marks.new.first.of }
+        ensures second { MarkedRow (rows_has self.now.rows.second c) (c + 1) marks.old.second.of marks.new.second.of }
+        ensures first_all { (e : ℕ) → row_has marks.new.first.all e ≡ (row_has marks.old.first.all e || (within 1 members_most (c + 1) && eqb e (c + 1))) }
+        ensures second_all { (e : ℕ) → row_has marks.new.second.all e ≡ (row_has marks.old.second.all e || (within 1 members_most (c + 1) && eqb e (c + 1))) }
+    {
+        let block = self.block(c);
+        marks.first.add(block.first, c + 1);
+        marks.second.add(block.second, c + 1);
     }
-}
 
-// The marks of the nodes of rows 0 to n - 1, where the mark of row c is c + 1.
-fn row_marks(rows: &[u64; sizes::BLOCK_WORDS], n: u16) -> [u16; sizes::NODE_PLACES]
-    requires { n ≤ block_places }
-    ensures { BlockMarks (rows_has rows.now) n result }
-{
-    let mut mark = [0u16; sizes::NODE_PLACES];
-    for c in 0..n {
-        mark_row(&mut mark, load(rows, c as usize), c + 1);
-    }
-    mark
-}
-
-impl Marks {
     // The marks of the blocks.
-    pub fn of(partition: &Partition) -> Marks
-        requires { partition.now.count ≤ block_places }
-        ensures first { BlockMarks (rows_has partition.now.first) partition.now.count result.first }
-        ensures second { BlockMarks (rows_has partition.now.second) partition.now.count result.second }
-        ensures all { (e : ℕ) → row_has result.all e ≡ (leb e partition.now.count && within 1 members_most e) }
+    pub fn marks(&self) -> Both<Marks>
+        ensures first { BlockMarks (rows_has self.now.rows.first) self.now.count result.first.of }
+        ensures second { BlockMarks (rows_has self.now.rows.second) self.now.count result.second.of }
+        ensures first_all { (e : ℕ) → row_has result.first.all e ≡ (leb e self.now.count && within 1 members_most e) }
+        ensures second_all { (e : ℕ) → row_has result.second.all e ≡ (leb e self.now.count && within 1 members_most e) }
     {
-        Marks {
-            first: row_marks(&partition.first, partition.count),
-            second: row_marks(&partition.second, partition.count),
-            all: structure::node_row(partition.count),
+        let mut marks = Both {
+            first: Marks::none(),
+            second: Marks::none(),
+        };
+        for c in 0..self.count {
+            self.mark_block(c, &mut marks);
         }
-    }
-
-    // The mark of the last block, which is new.
-    pub fn add_last(&mut self, partition: &Partition)
-        requires some { 1 ≤ partition.now.count }
-        requires few { partition.now.count ≤ block_places }
-        ensures first { MarkedRow (rows_has partition.now.first (partition.now.count - 1)) partition.now.count self.old.first self.new.first }
-        ensures second { MarkedRow (rows_has partition.now.second (partition.now.count - 1)) partition.now.count self.old.second self.new.second }
-        ensures all { (e : ℕ) → row_has self.new.all e ≡ (row_has self.old.all e || (within 1 members_most partition.now.count && eqb e partition.now.count)) }
-    {
-        let mark = partition.count;
-        let block = partition.block(mark - 1);
-        mark_row(&mut self.first, block.first, mark);
-        mark_row(&mut self.second, block.second, mark);
-        self.all = self.all.with(mark);
+        marks
     }
 }
 
 // The nodes of the row with an edge into the other.
 pub fn leading(m: &Machine<'_>, row: Row, into: Row) -> Row
-    requires { TailOf m.now.words.now m.now.tail }
     ensures { (s : ℕ) → row_has result s ≡ (row_has row s && leads_into m.now.words.now (row_has into) s) }
 {
-    let mut out = Row::empty();
-    for s in row.members() {
-        if structure::leads_into(m.words, s, into, m.tail) {
-            out = out.with(s);
-        }
-    }
-    out
+    row.filter(|s| m.leads_into(s, into))
 }
 
 // A mark that one of the rows has and the other has not.
@@ -105,24 +67,12 @@ fn apart(a: Row, b: Row) -> Option<u16>
 }
 
 // A mark in which the signature of a node of the row differs from l.
-fn unlike(
-    m: &Machine<'_>,
-    mark: &[u16; sizes::NODE_PLACES],
-    all: Row,
-    row: Row,
-    l: Row,
-) -> Option<u16>
-    requires marks { MarksIn m.now.words.now mark.now (row_has row) (row_has all) }
-    requires tailed { TailOf m.now.words.now m.now.tail }
-    ensures { TellsUnlike m.now.words.now mark.now (row_has row) (row_has l) result }
+fn unlike(m: &Machine<'_>, marks: &Marks, row: Row, l: Row) -> Option<u16>
+    ensures { TellsUnlike m.now.words.now marks.now.of (row_has row) (row_has l) result }
 {
-    for s in row.members().rev() {
-        match apart(structure::marks_into(m.words, mark, all, s, m.tail), l) {
-            Some(e) => return Some(e),
-            None => {}
-        }
-    }
-    None
+    row.members()
+        .rev()
+        .find_map(|s| apart(m.marks_into(marks, s), l))
 }
 
 // Whether the row has at most one node.
@@ -148,69 +98,35 @@ fn alone(rows: Sets) -> bool
     false
 }
 
-// The signature of a node of the rows, if they have one, and the nodes that are left.
-fn led_by(ms: &Machines<'_>, marks: &Marks, rows: Sets) -> Lead
-    requires first { MarksIn ms.now.first.words.now marks.now.first (row_has rows.first) (row_has marks.now.all) }
-    requires second { MarksIn ms.now.second.words.now marks.now.second (row_has rows.second) (row_has marks.now.all) }
-    requires tailed { Tailed ms.now }
-    ensures { Led ms.now.first.words.now ms.now.second.words.now marks.now.first marks.now.second (row_has rows.first) (row_has rows.second) result }
+// The last node of the row leads, if it has one.
+fn led(m: &Machine<'_>, marks: &Marks, row: Row) -> Option<Lead>
+    ensures { Led m.now.words.now marks.now.of row result }
 {
-    match rows.first.highest() {
-        Some(s) => Lead {
-            marks: structure::marks_into(ms.first.words, &marks.first, marks.all, s, ms.first.tail),
-            rest: Both {
-                first: rows.first.without(s),
-                second: rows.second,
-            },
-        },
-        None => match rows.second.highest() {
-            Some(t) => Lead {
-                marks: structure::marks_into(
-                    ms.second.words,
-                    &marks.second,
-                    marks.all,
-                    t,
-                    ms.second.tail,
-                ),
-                rest: Both {
-                    first: rows.first,
-                    second: rows.second.without(t),
-                },
-            },
-            None => Lead {
-                marks: Row::empty(),
-                rest: rows,
-            },
-        },
-    }
+    let s = row.highest()?;
+    Some(Lead {
+        marks: m.marks_into(marks, s),
+        rest: row.without(s),
+    })
 }
 
 // A mark that the edges of one node of a block lead to and those of another do not. A block of one node is not looked at.
-pub fn splitter(ms: &Machines<'_>, marks: &Marks, rows: Sets) -> Option<u16>
-    requires first { MarksIn ms.now.first.words.now marks.now.first (row_has rows.first) (row_has marks.now.all) }
-    requires second { MarksIn ms.now.second.words.now marks.now.second (row_has rows.second) (row_has marks.now.all) }
-    requires tailed { Tailed ms.now }
+pub fn splitter(ms: &Machines<'_>, marks: &Both<Marks>, rows: Sets) -> Option<u16>
     ensures { (m₁ m₂ : Members) (c : ℕ) → ((s : ℕ) → row_has rows.first s ≡ m₁ c s) → ((t : ℕ) → row_has rows.second t ≡ m₂ c t)
-        → TellsMark ms.now.first.words.now ms.now.second.words.now m₁ m₂ marks.now.first marks.now.second c result }
+        → TellsMark ms.now.first.words.now ms.now.second.words.now m₁ m₂ marks.now.first.of marks.now.second.of c result }
 {
     if alone(rows) {
         return None;
     }
-    let lead = led_by(ms, marks, rows);
-    match unlike(
-        &ms.first,
-        &marks.first,
-        marks.all,
-        lead.rest.first,
-        lead.marks,
-    ) {
-        Some(e) => Some(e),
-        None => unlike(
-            &ms.second,
-            &marks.second,
-            marks.all,
-            lead.rest.second,
-            lead.marks,
-        ),
+    match led(&ms.first, &marks.first, rows.first) {
+        // A match by hand: by `or_else` this return's goal stays open, since nothing is told of what its closure answers, even where the
+        // closure has a clause of its own that says it.
+        Some(lead) => match unlike(&ms.first, &marks.first, lead.rest, lead.marks) {
+            Some(e) => Some(e),
+            None => unlike(&ms.second, &marks.second, rows.second, lead.marks),
+        },
+        None => {
+            let lead = led(&ms.second, &marks.second, rows.second)?;
+            unlike(&ms.second, &marks.second, lead.rest, lead.marks)
+        }
     }
 }

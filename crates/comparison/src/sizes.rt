@@ -19,6 +19,3 @@ pub const LINE_PLACES: usize = 1024;
 pub const BLOCK_PLACES: usize = sizes::TABLE_ROWS as usize;
 
 pub const BLOCK_WORDS: usize = sizes::TABLE_WORDS;
-
-// A table with a place for each number of a node.
-pub const NODE_PLACES: usize = sizes::NODE_PLACES;

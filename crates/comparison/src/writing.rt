@@ -4,7 +4,6 @@ ghost use Rattle.std.proofs.Math.Seq.{paste};
 ghost use Rattle.truth.specs.Passed.{operation_number};
 ghost use Rattle.truth.specs.Passed.{line_words, line_record};
 ghost use Rattle.comparison.specs.inner.Sizes.{written_space, written_most};
-ghost use Rattle.comparison.specs.inner.Lines.{Entry, entry, entry_of, signal_lines, first_lines, split, HoldsLines, Pushed};
 
 use crate::sizes;
 use truth::header;
@@ -21,11 +20,12 @@ pub enum Line {
 }
 
 // Written lines: their words, and how many they are, in the room for the most that there may be, since nothing is kept on the heap. Lines
-// count from 1.
+// count from 1. It has no `Model` by the list of its entries: all words would need one, also words that are no line's.
 #[derive(Clone, Copy)]
 pub struct Written {
     pub words: [u16; sizes::WRITTEN_SPACE],
     pub count: u16,
+    pub ghost few: { count ≤ written_most },
 }
 
 // The two lines that a split writes for the parts of a block: where line p is true, and where it is not.
@@ -44,6 +44,8 @@ pub fn copy(space: &mut [u16], at: usize, words: &[u16])
 }
 
 impl Written {
+    ghost use Rattle.comparison.specs.inner.Lines.{Entry, entry, entry_of, signal_lines, first_lines, split, HoldsLines, Pushed};
+
     // No line.
     pub fn new() -> Written
         ensures { result.count ≡ 0 }
@@ -91,6 +93,7 @@ impl Written {
         let k = sizes::LINE_WORDS * (i as usize - 1);
         let x = self.words[k + header::OPERAND];
         let y = self.words[k + header::SECOND_OPERAND];
+        // Each line that was written has an operation's number. Nothing is asked of the callers for that, so any other number reads as `Next`.
         let Ok(operation) = Operation::try_from(self.words[k + header::OPERATION]) else {
             return Line::Next(y);
         };

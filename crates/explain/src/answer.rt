@@ -9,7 +9,7 @@ use crate::verdict::Verdict;
 use comparison::compare;
 use comparison::compare::Answer;
 use input::refused::Refused;
-use input::{cut, limits};
+use input::{limits, reply};
 use sheets::refusal::Refusal;
 use sheets::{format, rules};
 
@@ -40,13 +40,10 @@ fn explain_sheets(
     }
 }
 
-// What is said of the bytes of standard input; unequal, the rule is left at the head of the space. The four programs
-// alike cut the bytes, and call: a function for the four would take the call as a closure, and say no less.
+// What is said of the bytes of standard input; unequal, the rule is left at the head of the space.
 pub fn answer_to(input: &[u8], space: &mut [u16]) -> Result<Option<Verdict>, Refused>
     ensures { Answered input.now space.old space.new result }
 {
     let mut words = [0u16; limits::MACHINES_WORDS];
-    let cut = cut::sheets_of(input, &mut words)?;
-    let answer = explain_sheets(cut.first(&words), cut.second(&words), space)?;
-    Ok(answer)
+    reply::reply_to(input, &mut words, space, explain_sheets)
 }

@@ -32,7 +32,7 @@ pub fn judge(first: &[u16], second: &[u16], rule: &[u16]) -> Verdict
     if let Some(node) = broken_at(second, rule) {
         return Verdict {
             keeper: Side::First,
-            node: node,
+            node,
         };
     }
     Verdict {

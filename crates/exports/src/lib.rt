@@ -4,6 +4,7 @@
 
 ghost use Rattle.std.specs.Prelude.{◌≡◌};
 ghost use Rattle.sheets.specs.Machine.{machine_refusal};
+ghost use Rattle.sheets.specs.Refusals.{refusal_of, number_of, sheet_of};
 ghost use Rattle.sheets.specs.Rules.{lent, rule_refusal};
 ghost use Rattle.truth.specs.LabelAnswers.{LabelAnswer};
 ghost use Rattle.truth.specs.PathAnswers.{PathAnswer};
@@ -24,20 +25,34 @@ use truth::{labelling, pairs, path};
 pub fn toqshenay_check_machine(m: &[u16]) -> u16
     ensures { result ≡ machine_refusal m.now }
 {
-    match checks::check_machine(m) {
-        Ok(()) => 0,
-        Err(refusal) => refusal.number(),
-    }
+    tell_check(checks::check_machine(m))
 }
 
 // The question that refuses a rule sheet, 0 where it is accepted.
 pub fn toqshenay_check_rules(r: &[u16]) -> u16
     ensures { result ≡ rule_refusal lent r.now }
 {
-    match checks::check_rules(r) {
+    tell_check(checks::check_rules(r))
+}
+
+// The number of a check's answer: the question that refuses, or 0.
+#[tactic(auto, unfolding(sheets::specs::Questions::none))]
+fn tell_check(answer: Result<(), Refusal>) -> u16
+    ensures { result ≡ (refusal_of answer).number }
+{
+    match answer {
         Ok(()) => 0,
         Err(refusal) => refusal.number(),
     }
+}
+
+// The two numbers of a refusal: the question that refuses, and its sheet.
+fn tell_refusal(refusal: Refusal, sheet: &mut u16) -> u16
+    ensures number { result ≡ number_of refusal }
+    ensures sheet { sheet.new ≡ sheet_of refusal }
+{
+    *sheet = refusal.sheet();
+    refusal.number()
 }
 
 // Labelling: the rows go to the lent space, two words a line. The question that refuses, and its sheet, or 0; then whether the rule
@@ -73,20 +88,17 @@ fn tell_label(
     *percent = 0;
     match answer {
         Ok(found) => {
-            *kept = found.kept as u16;
+            *kept = u16::from(found.kept);
             *count = found.count;
             *percent = found.percent;
             0
         }
-        Err(refusal) => {
-            *sheet = refusal.sheet();
-            refusal.number()
-        }
+        Err(refusal) => tell_refusal(refusal, sheet),
     }
 }
 
-// The numbers of a path's answer: the question that refuses, and its sheet, or 0; then the number of pairs, 0 where there is no path,
-// and the place that the last pair goes back to.
+// The numbers of a path's answer: the question that refuses, and its sheet, or 0; then the number of pairs, 0 where there is no path, since C
+// has no Option, and the place that the last pair goes back to.
 fn tell_path(
     answer: Result<Option<Shown>, Refusal>,
     sheet: &mut u16,
@@ -105,10 +117,7 @@ fn tell_path(
             *back = shown.back;
             0
         }
-        Err(refusal) => {
-            *sheet = refusal.sheet();
-            refusal.number()
-        }
+        Err(refusal) => tell_refusal(refusal, sheet),
     }
 }
 
@@ -174,9 +183,6 @@ fn tell_compare(answer: Result<Answer, Refusal>, sheet: &mut u16, unequal: &mut 
             *unequal = 1;
             0
         }
-        Err(refusal) => {
-            *sheet = refusal.sheet();
-            refusal.number()
-        }
+        Err(refusal) => tell_refusal(refusal, sheet),
     }
 }

@@ -100,3 +100,8 @@ by-reply {most} {bytes} {A = A} reply f g = by (readable most (length bytes)) re
     by : (taken : Bool) → readable most (length bytes) ≡ taken → A
     by true ok = g ok (reply.answered ok)
     by false other = f other (reply.refused other)
+
+-- a reply that says so of the two sheets, from one that says more
+pub reply-by : {most : ℕ} {bytes : List ℕ} {Refused : Type 0} {More Answered : List ℕ → List ℕ → Type 0}
+    → Reply most bytes Refused More → ((M R : List ℕ) → More M R → Answered M R) → Reply most bytes Refused Answered
+reply-by h f = record { refused = h.refused; answered = λ ok. f _ _ (h.answered ok) }

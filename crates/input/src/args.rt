@@ -3,11 +3,12 @@ ghost use Rattle.std.specs.Prelude.{◌≤◌, IfSome, length};
 
 use std::env::{Env, FillError};
 
-// Puts argument i at the head of the lent bytes and answers its length; none where it is missing or longer than they are.
-pub fn arg<E: Env>(env: &E, i: usize, lent: &mut [u8]) -> Option<usize>
-    ensures { IfSome result (λ n. n ≤ length lent.new) }
+// Puts argument i at the head of the lent bytes and answers the bytes that it has there; none where it is missing or longer than they are.
+pub fn arg<'a, E: Env>(env: &E, i: usize, lent: &'a mut [u8]) -> Option<&'a [u8]>
+    ensures { IfSome result (λ word. length word.now ≤ length lent.old) }
 {
-    env.arg(i, lent).ok()
+    let n = env.arg(i, lent).ok()?;
+    Some(&lent[..n])
 }
 
 // Whether the program has no argument i.

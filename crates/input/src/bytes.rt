@@ -24,6 +24,7 @@ pub fn words_of(bytes: &[u8], words: &mut [u16]) -> usize
     ensures written { words.new ≡ take result (words_of bytes.now) ++ drop result words.old }
 {
     let n = (bytes.len() / 2).min(words.len());
+    // By an index: a `zip` over the words to write holds them, and then the loop's invariant cannot name them.
     for i in 0..n {
         words[i] = word_of(bytes[2 * i], bytes[2 * i + 1]);
     }
@@ -37,8 +38,8 @@ pub fn bytes_of(words: &[u16], bytes: &mut [u8]) -> usize
     ensures written { bytes.new ≡ take result (bytes_of words.now) ++ drop result bytes.old }
 {
     let n = words.len().min(bytes.len() / 2);
-    for i in 0..n {
-        put_word(bytes, 2 * i, words[i]);
+    for (i, word) in words[..n].iter().enumerate() {
+        put_word(bytes, 2 * i, *word);
     }
     2 * n
 }

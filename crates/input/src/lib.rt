@@ -8,4 +8,5 @@ pub mod full; // full.rt: a reader's bytes, until it ends or the lent space is f
 pub mod limits; // limits.rt: how much the programs take and lend
 pub mod line; // line.rt: the line of a refusal
 pub mod refused; // refused.rt: why a program refuses its input, and its words
+pub mod reply; // reply.rt: what is answered to bytes, from what is answered to two sheets
 pub mod turn; // turn.rt: a sheet as text and as bytes

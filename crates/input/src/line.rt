@@ -4,7 +4,7 @@ ghost use Rattle.input.specs.Lines.{refused_line};
 
 use text::line::Line;
 
-// The line `refused Q S`. The longest is `refused 65535 65535` with its line end, 20 bytes.
+// The line `refused Q S`, of any two numbers: narrower types would ask more. The longest is `refused 65535 65535` with its line end, 20 bytes.
 pub fn refused(question: u16, sheet: u16) -> Line
     ensures { result ≡ refused_line question sheet }
 {

@@ -15,7 +15,7 @@ pub enum Refused {
 }
 
 impl Refused {
-    // The question's number, 0 for the bytes.
+    // The question's number, 0 for the bytes: the printed line `refused Q S` has the number, and 0 for bytes that are no sheets.
     pub fn number(self) -> u16
         ensures { result ≡ number_of self }
     {
@@ -25,7 +25,7 @@ impl Refused {
         }
     }
 
-    // The number of the machine sheet that it is put to, 0 where it is put to none.
+    // The number of the machine sheet that it is put to, 0 where it is put to none: the printed line has that number too.
     pub fn sheet(self) -> u16
         ensures { result ≡ sheet_of self }
     {
@@ -55,15 +55,7 @@ impl From<Unreadable> for Refused {
 // The question with the machine sheet that it is put to, and what is wrong; of the bytes, what is wrong.
 impl fmt::Display for Refused {
     fn fmt<W: fmt::Write>(&self, f: &mut fmt::Formatter<W>) -> fmt::Result {
-        match *self {
-            Refused::Bytes => f.write_str(BYTES),
-            Refused::Question(refusal) => {
-                let number = refusal.number();
-                let sheet = sheet(refusal);
-                let reason = reason(refusal);
-                write!(f, "question {number}{sheet}: {reason}")
-            }
-        }
+        say(f, *self, sheet(*self))
     }
 }
 
@@ -73,26 +65,28 @@ pub struct OfOneSheet(pub Refused);
 
 impl fmt::Display for OfOneSheet {
     fn fmt<W: fmt::Write>(&self, f: &mut fmt::Formatter<W>) -> fmt::Result {
-        match self.0 {
-            Refused::Bytes => f.write_str(BYTES),
-            Refused::Question(refusal) => {
-                let number = refusal.number();
-                let reason = reason(refusal);
-                write!(f, "question {number}: {reason}")
-            }
+        say(f, self.0, "")
+    }
+}
+
+// What a refusal says, with the words for the sheet behind the question's number.
+fn say<W: fmt::Write>(f: &mut fmt::Formatter<W>, refused: Refused, sheet: &str) -> fmt::Result {
+    match refused {
+        Refused::Bytes => f.write_str("an odd number of bytes, or too many"),
+        Refused::Question(refusal) => {
+            let number = refusal.number();
+            let reason = reason(refusal);
+            write!(f, "question {number}{sheet}: {reason}")
         }
     }
 }
 
-// What is wrong with the bytes.
-const BYTES: &str = "an odd number of bytes, or too many";
-
 // Which machine sheet the question is put to.
-fn sheet(refusal: Refusal) -> &'static str {
-    match refusal {
-        Refusal::Machine(Side::First, _) => " of the first machine sheet",
-        Refusal::Machine(Side::Second, _) => " of the second machine sheet",
-        Refusal::Rules(_) | Refusal::Call(_) => "",
+fn sheet(refused: Refused) -> &'static str {
+    match refused {
+        Refused::Question(Refusal::Machine(Side::First, _)) => " of the first machine sheet",
+        Refused::Question(Refusal::Machine(Side::Second, _)) => " of the second machine sheet",
+        Refused::Question(Refusal::Rules(_) | Refusal::Call(_)) | Refused::Bytes => "",
     }
 }
 

@@ -2,7 +2,7 @@
 ghost use Rattle.label.specs.Program.{LabelledSheets, Answered};
 
 use input::refused::Refused;
-use input::{cut, limits};
+use input::{limits, reply};
 use sheets::refusal::Refusal;
 use sheets::{machine, rules};
 use truth::labelling;
@@ -22,19 +22,16 @@ fn label_sheets(m: &[u16], r: &[u16], rows: &mut [u64]) -> Result<Answer, Refusa
 {
     let labelled = labelling::label(m, r, rows)?;
     Ok(Answer {
-        labelled: labelled,
+        labelled,
         nodes: machine::nodes(m),
         lines: rules::lines(r),
     })
 }
 
-// The answer to the bytes of standard input; the truth rows go to the lent space, two words a line. The four programs
-// alike cut the bytes, and call: a function for the four would take the call as a closure, and say no less.
+// The answer to the bytes of standard input; the truth rows go to the lent space, two words a line.
 pub fn answer_to(input: &[u8], rows: &mut [u64]) -> Result<Answer, Refused>
     ensures { Answered input.now rows.old rows.new result }
 {
     let mut words = [0u16; limits::SHEETS_WORDS];
-    let cut = cut::sheets_of(input, &mut words)?;
-    let answer = label_sheets(cut.first(&words), cut.second(&words), rows)?;
-    Ok(answer)
+    reply::reply_to(input, &mut words, rows, label_sheets)
 }

@@ -30,15 +30,8 @@ fn show<W: Write>(out: &mut W, answer: Result<Answer, Refused>, rows: &[u64]) ->
 {
     match answer {
         Ok(answer) => {
-            let labelled = answer.labelled;
             print::rows(out, rows, answer.nodes, answer.lines)?;
-            print::verdict(
-                out,
-                answer.nodes,
-                labelled.kept,
-                labelled.count,
-                labelled.percent,
-            )
+            print::verdict(out, answer.nodes, answer.labelled)
         }
         Err(refused) => writeln!(out, "refused: {refused}"),
     }

@@ -4,20 +4,20 @@ ghost use Rattle.truth.specs.Sizes.{row_words};
 
 use std::io;
 use std::io::Write;
+use truth::labelling::Labelled;
 use truth::rows::Row;
 use truth::tables::line_row;
 
-// `line 2: true at 3 of 8 nodes: 1 4 5`
+// `line 2: true at 3 of 8 nodes: 1 4 5`. A labelled row has nodes of the machine alone: every bit above them is 0, says `Rows`, field `clear`,
+// of truth's definition of labelling.
 fn line<W: Write>(out: &mut W, j: u16, nodes: u16, row: Row) -> io::Result<()> {
     let count = row.count();
     write!(out, "line {j}: true at {count} of {nodes} nodes")?;
     if !row.is_empty() {
         write!(out, ":")?;
     }
-    for s in 1..=nodes {
-        if row.has(s) {
-            write!(out, " {s}")?;
-        }
+    for s in row.members() {
+        write!(out, " {s}")?;
     }
     writeln!(out)
 }
@@ -33,13 +33,12 @@ pub fn rows<W: Write>(out: &mut W, rows: &[u64], nodes: u16, lines: u16) -> io::
 }
 
 // Whether the rule is kept, and the count and percent of the nodes where it is true.
-pub fn verdict<W: Write>(
-    out: &mut W,
-    nodes: u16,
-    kept: bool,
-    count: u32,
-    percent: u32,
-) -> io::Result<()> {
+pub fn verdict<W: Write>(out: &mut W, nodes: u16, labelled: Labelled) -> io::Result<()> {
+    let Labelled {
+        kept,
+        count,
+        percent,
+    } = labelled;
     if kept {
         writeln!(out, "the rule is kept: it is true at every start node")?;
     } else {

@@ -1,3 +1,3 @@
 -- The laws of the path program.
 pub mod Digits
-pub mod ShownRooms
+pub mod ShownPairs

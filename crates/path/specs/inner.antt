@@ -1,2 +1,2 @@
 -- What functions below the entry points promise each other: what is handed to those that print.
-pub mod AnsweredLists
+pub mod AnsweredPairs

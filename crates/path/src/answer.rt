@@ -1,26 +1,26 @@
 // What is answered to the input.
+ghost use Rattle.truth.specs.PathPairs.{PairsAnswer};
 ghost use Rattle.path.specs.Program.{Answered};
 
+use crate::arguments::Asked;
 use input::refused::Refused;
-use input::{cut, limits};
-use truth::path;
+use input::{limits, reply};
+use truth::pairs;
+use truth::pairs::Pair;
 use truth::path::Shown;
 
-// The answer to the bytes of standard input; the nodes and the states of the path's pairs go to the two lent lists. The four programs
-// alike cut the bytes, and call: a function for the four would take the call as a closure, and say no less.
-pub fn answer_to(
-    input: &[u8],
-    line: u16,
-    node: u16,
-    nodes: &mut [u16],
-    states: &mut [u16],
-) -> Result<Option<Shown>, Refused>
-    ensures { Answered input.now line node nodes.old states.old nodes.new states.new result }
+// The answer to the bytes of standard input; the path's pairs go to the lent list. The closure holds what is asked, and its own clause says what it
+// answers to two sheets.
+pub fn answer_to(input: &[u8], asked: Asked, list: &mut [Pair]) -> Result<Option<Shown>, Refused>
+    ensures { Answered input.now asked.line asked.node list.old list.new result }
 {
     let mut words = [0u16; limits::SHEETS_WORDS];
-    let cut = cut::sheets_of(input, &mut words)?;
-    let m = cut.first(&words);
-    let r = cut.second(&words);
-    let answer = path::path_lists(m, r, line, node, nodes, states)?;
-    Ok(answer)
+    reply::reply_to(
+        input,
+        &mut words,
+        list,
+        |m: &[u16], r: &[u16], list: &mut [Pair]|
+            ensures { PairsAnswer m.now r.now asked.line asked.node list.old list.new result }
+        { pairs::path(m, r, asked.line, asked.node, list) },
+    )
 }

@@ -18,10 +18,10 @@ fn digit_of(byte: u8) -> Option<u16>
         return None;
     }
     let digit = byte.checked_sub(b'0')?;
-    Some(digit as u16)
+    Some(u16::from(digit))
 }
 
-// The number that an argument says: decimal digits alone make one, at least one of them, if it is below 65,536.
+// The number that an argument says: decimal digits alone make one, at least one of them, if it is below 65,536. std's `parse` would also take a sign.
 #[tactic(auto, using(crate::proofs::Digits::no_digit, crate::proofs::Digits::begins, crate::proofs::Digits::all_read, crate::proofs::Digits::no_digit_there, crate::proofs::Digits::too_large, crate::proofs::Digits::one_more))]
 fn number_of(bytes: &[u8]) -> Option<u16>
     ensures { result ≡ argument_of bytes.now }

@@ -1,8 +1,13 @@
 -- Pages: what is put behind a cursor leaves what stands before it, and lines stay narrow and few.
-use Rattle.std.proofs.Common.{◌≡◌, ℕ, zero, suc, ◌+◌, ◌<◌, ◌≤◌, cond, eqb, List, length, length-take-le, take, get_or, get_or-take, set, sym, refl, ◌∙◌, ap₂, add-one, arith, length-set, get_or-set_other, get_or-set_same, eq-eqb, ne_eqb}
+use Rattle.std.proofs.Common.{◌≡◌, ℕ, zero, suc, ◌+◌, ◌-◌, ◌<◌, ◌≤◌, cond, eqb, List, ◌++◌, append_assoc, length, length-take-le, take, get_or, get_or-take, set, sym, refl, ◌∙◌, ap, ap₂, add-one, arith, length-set, get_or-set_other, get_or-set_same, eq-eqb, ne_eqb}
+use Rattle.std.proofs.lemmas.Fmt.{contents_after_writes}
+use Rattle.std.specs.Fmt.{WritesText, AppendsText}
+use Rattle.std.specs.Option.{SomeIff, IfSome}
+use Rattle.std.specs.declared.option.Option.{Option}
+use Rattle.std.specs.declared.option.Option.TheVariants.{None, Some}
 use native.Mathlib.Decide.{dec_le}
 use mathlib.Core.Logic.{by_cases}
-use Rattle.sentences.specs.Pages.{page_size, page_width, page_height, column, ended, Narrow, Laid}
+use Rattle.sentences.specs.Pages.{page_size, page_width, page_height, column, ended, Narrow, Laid, Kept}
 
 -- ---- the same bytes
 
@@ -113,3 +118,30 @@ pub ended_text : (page : List ℕ) (n : ℕ) → n ≤ length page → ended (ta
 ended_text page n inside =
     rw (length-take-le n page inside)
     (ended_same page (take n page) n (λ i h. get_or-take n page i 0 h) n (omega arith))
+
+-- ---- what is put
+
+-- one step after another
+pub kept_then : {before between after : List ℕ} → Kept before between → Kept between after → Kept before after
+kept_then x y = record {
+  more = x.more ++ y.more;
+  behind = y.behind ∙ ap (λ bytes. bytes ++ y.more) x.behind ∙ append_assoc _ x.more y.more;
+}
+
+-- what was written call by call stands behind what was there
+pub appends_written : (o : Option (List ℕ)) (before after : List ℕ) → WritesText (λ x bytes y. y ≡ x ++ bytes) before o after → AppendsText before after o
+appends_written None before after w = tt
+appends_written (Some bytes) before after w = contents_after_writes _ (λ x. x) (λ _ _ _ t. t) before bytes after w
+
+-- ---- the room of a line
+
+-- the last line of the text alone
+pub column-text : (page : List ℕ) (n : ℕ) → n ≤ length page → column (take n page) (length (take n page)) ≡ column page n
+column-text page n inside =
+    rw (length-take-le n page inside)
+    (column-same page (take n page) n (λ i h. get_or-take n page i 0 h) n (omega arith))
+
+-- what is left of it behind words that it has room for
+pub room-left : (o : Option ℕ) (width taken : ℕ) → width ≤ page_width → SomeIff o (taken ≤ page_width - width) (page_width - width - taken) → IfSome o (λ room. width + room ≤ page_width)
+room-left None width taken narrow left = tt
+room-left (Some room) width taken narrow left = omega (arith, left.0, left.1)

@@ -1,5 +1,6 @@
--- A page of text: how long its lines are, and how many are ended.
-use Rattle.std.specs.Prelude.{◌≡◌, ℕ, zero, suc, ◌≤◌, cond, List, length, ◌==◌, slice_index}
+-- A page of text: how long its lines are, how many are ended, and what stays as text is put behind it; and words that are formed before they
+-- are put.
+use Rattle.std.specs.Prelude.{◌≡◌, ℕ, zero, suc, ◌*◌, ◌≤◌, cond, List, ◌++◌, length, replicate, ◌==◌, slice_index}
 
 -- how many bytes a page has, how many a line before its end, and how many lines a page
 abbrev pub page_size : ℕ
@@ -33,3 +34,17 @@ pub record Laid (page : List ℕ) (n width height : ℕ) : Type 0 where
   pub above : Narrow page n
   pub column : column page n ≡ width
   pub ended : ended page n ≡ height
+
+-- what stands before stays, and more may stand behind it
+pub record Kept (before after : List ℕ) : Type 0 where
+  pub more : List ℕ
+  pub behind : after ≡ before ++ more
+
+-- two blanks for each level
+abbrev pub blanks : ℕ → List ℕ
+blanks level = replicate (2 * level) 32
+
+-- words of n bytes, which a line has room for
+pub record Formed (bytes : List ℕ) (n : ℕ) : Type 0 where
+  pub size : length bytes ≡ page_width
+  pub fits : n ≤ page_width

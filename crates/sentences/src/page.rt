@@ -1,6 +1,7 @@
 // A page of text: bytes in a space of its own, line below line, none of them too long and not too many.
-ghost use Rattle.std.specs.Prelude.{◌≡◌, ◌++◌, ◌∷◌, [], length, OnOk, OnErr};
-ghost use Rattle.sentences.specs.Pages.{ended, Narrow};
+ghost use Rattle.std.specs.Prelude.{◌≡◌, ◌+◌, ◌≤◌, ◌++◌, ◌∷◌, [], length, OnOk, OnErr, IfOk, IfSome};
+ghost use Rattle.std.specs.Fmt.{AppendsText};
+ghost use Rattle.sentences.specs.Pages.{page_width, column, ended, Narrow, Kept, blanks};
 
 use std::fmt;
 use std::fmt::{Display, Write};
@@ -10,6 +11,9 @@ use std::marker::Model;
 pub const SIZE: usize = 4096;
 
 pub const WIDTH: u16 = 100;
+
+// The width as a length of arrays. A cast, since a const calls no `from`.
+const LINE: usize = WIDTH as usize;
 
 pub const HEIGHT: u16 = 40;
 
@@ -63,26 +67,50 @@ impl Page {
     }
 
     // How many bytes the last line still has room for behind these words, if there is room for them.
-    pub fn room_behind<D: Display + Drop>(&self, words: D) -> Option<usize> {
-        let mut room = Room {
-            left: (WIDTH - self.column) as usize,
-        };
-        match room.write(words) {
-            Ok(()) => Some(room.left),
-            Err(_) => None,
+    pub fn room_behind<D: Display + Drop>(&self, said: D) -> Option<usize>
+        ensures { IfSome result (λ room. column self.now (length self.now) + room ≤ page_width) }
+    {
+        let words = Words::of(said).ok()?;
+        let left = LINE - self.column as usize;
+        left.checked_sub(words.as_slice().len())
+    }
+
+    // Puts the words behind the text, as far as there is room.
+    pub fn say<D: Display + Drop>(&mut self, said: D) -> fmt::Result
+        ensures ok { OnOk result (AppendsText self.old self.new (D.output said)) }
+        ensures kept { Kept self.old self.new }
+    {
+        let words = Words::of(said)?;
+        self.put(words.as_slice())
+    }
+
+    // Puts bytes behind the text, as far as there is room.
+    pub fn put(&mut self, bytes: &[u8]) -> fmt::Result
+        ensures ok { OnOk result (self.new ≡ self.old ++ bytes.now) }
+        ensures kept { Kept self.old self.new }
+    {
+        for byte in bytes {
+            self.put_byte(*byte)?;
         }
+        Ok(())
     }
 
     // Ends the line and begins the next one, two blanks in for each level.
-    pub fn begin_line(&mut self, level: u16) -> fmt::Result {
+    pub fn begin_line(&mut self, level: u16) -> fmt::Result
+        ensures ok { OnOk result (self.new ≡ self.old ++ 10 ∷ blanks level) }
+        ensures kept { Kept self.old self.new }
+    {
         self.end_line()?;
         self.indent(level)
     }
 
     // Two blanks for each level.
-    pub fn indent(&mut self, level: u16) -> fmt::Result {
+    pub fn indent(&mut self, level: u16) -> fmt::Result
+        ensures ok { OnOk result (self.new ≡ self.old ++ blanks level) }
+        ensures kept { Kept self.old self.new }
+    {
         for _ in 0..level {
-            self.write_str("  ")?;
+            self.put(b"  ")?;
         }
         Ok(())
     }
@@ -126,32 +154,57 @@ impl Page {
     }
 }
 
-// What is written goes behind the text, as far as there is room.
-impl Write for Page {
-    ghost write_str_gives = { λ before bytes after. after ≡ before ++ bytes };
+// Words that are formed before they are put: at most as many bytes as a line has. So a page says of every step what it leaves: a writer
+// says nothing of an error, and these words are left out then. Bytes and a length, since nothing is kept on the heap; no `text::line::Line`,
+// which cuts off what it has no room for, where `write_str` has to err.
+#[derive(Drop)]
+struct Words {
+    bytes: [u8; LINE],
+    len: usize,
+}
 
-    fn write_str(&mut self, s: &str) -> fmt::Result {
-        for byte in s.as_bytes() {
-            self.put_byte(*byte)?;
-        }
-        Ok(())
+impl Model for Words {
+    ghost use Rattle.std.specs.Prelude.{ℕ, List, take};
+    ghost use Rattle.sentences.specs.Pages.{Formed};
+
+    ghost Value = { List ℕ };
+
+    ghost view = { λ words. take words.len words.bytes };
+
+    ghost invariant = { λ words. Formed words.bytes words.len };
+}
+
+impl Words {
+    // The words of what is said, where a line has room for them.
+    fn of<D: Display + Drop>(said: D) -> Result<Words, fmt::Error>
+        ensures { IfOk result (λ words. AppendsText [] words (D.output said)) }
+    {
+        let mut words = Words {
+            bytes: [0; LINE],
+            len: 0,
+        };
+        words.write(said)?;
+        Ok(words)
+    }
+
+    // Their bytes.
+    fn as_slice(&self) -> &[u8]
+        ensures { result.now ≡ self.now }
+    {
+        &self.bytes[..self.len]
     }
 }
 
-// A line that is measured and not put: how many more bytes it has room for.
-#[derive(Drop)]
-struct Room {
-    left: usize,
-}
+impl Write for Words {
+    ghost write_str_gives = { λ before bytes after. after ≡ before ++ bytes };
 
-impl Write for Room {
     fn write_str(&mut self, s: &str) -> fmt::Result {
-        match self.left.checked_sub(s.len()) {
-            Some(left) => {
-                self.left = left;
-                Ok(())
-            }
-            None => Err(fmt::Error),
+        if s.len() > LINE - self.len {
+            return Err(fmt::Error);
         }
+        let end = self.len + s.len();
+        self.bytes[self.len..end].copy_from_slice(s.as_bytes());
+        self.len = end;
+        Ok(())
     }
 }

@@ -1,11 +1,13 @@
 // The parts of a line: what holds together exactly where the line holds, or exactly where it does not. A line that says "not" is what
 // it denies, the other way round; "neither" of two lines is taken apart into both.
+ghost use Rattle.std.specs.Prelude.{◌≡◌};
+
 use sheets::lines::Line;
 use sheets::{format, lines};
 use std::fmt;
 use std::fmt::Display;
 
-// The mark of a line: that it holds, that it does not, both or none.
+// The mark of a line: that it holds, that it does not, both or none. Two flags, since each is added by itself.
 #[derive(Clone, Copy, Debug, PartialEq, Eq)]
 pub struct Mark {
     pub holds: bool,
@@ -86,12 +88,18 @@ fn bit(i: u16) -> u16 {
     1 << ((i - 1) % format::WORD_BITS)
 }
 
+// Signals that are on, and signals that are off: two sets, each the bits of a word, as a node's signals are in the format.
+#[derive(Clone, Copy)]
+pub struct OnAndOff {
+    pub on: u16,
+    pub off: u16,
+}
+
 // The parts of a line: the signals that are on and those that are off, and the lines up to this one that stay marked as parts, `rest`
 // of them. `room` is how many more lines may be taken apart.
 #[derive(Drop)]
 pub struct Parts {
-    pub on: u16,
-    pub off: u16,
+    pub signals: OnAndOff,
     pub line: u16,
     pub rest: u16,
     room: u16,
@@ -100,10 +108,11 @@ pub struct Parts {
 
 impl Parts {
     // The parts of line k with this mark: signals, and the lines that are left marked, at most 12.
-    pub fn of(rule: &[u16], k: u16, mark: Mark) -> Parts {
+    pub fn of(rule: &[u16], k: u16, mark: Mark) -> Parts
+        ensures { result.line ≡ k }
+    {
         let mut parts = Parts {
-            on: 0,
-            off: 0,
+            signals: OnAndOff { on: 0, off: 0 },
             line: k,
             rest: 0,
             room: 11,
@@ -121,12 +130,15 @@ impl Parts {
         parts
     }
 
+    // The mark of line l.
     pub fn mark_of(&self, l: u16) -> Mark {
         self.marks.get(l)
     }
 
     // Line l has this mark, and every line below it is done.
-    fn take_apart(&mut self, rule: &[u16], l: u16, mark: Mark) {
+    fn take_apart(&mut self, rule: &[u16], l: u16, mark: Mark)
+        ensures { self.new.line ≡ self.old.line }
+    {
         match lines::decode(rule, l) {
             Some(Line::Signal(i)) => {
                 self.marks.set(l, Mark::NONE);
@@ -147,22 +159,28 @@ impl Parts {
         }
     }
 
-    fn add_signal(&mut self, i: u16, mark: Mark) {
+    fn add_signal(&mut self, i: u16, mark: Mark)
+        ensures { self.new.line ≡ self.old.line }
+    {
         if mark.holds {
-            self.on |= bit(i);
+            self.signals.on |= bit(i);
         }
         if mark.fails {
-            self.off |= bit(i);
+            self.signals.off |= bit(i);
         }
     }
 
     // A line stays marked.
-    fn keep(&mut self) {
+    fn keep(&mut self)
+        ensures { self.new.line ≡ self.old.line }
+    {
         self.rest = self.rest.wrapping_add(1);
     }
 
     // Neither line i nor line j, if there is room to say so; otherwise line l stays marked.
-    fn add_neither(&mut self, l: u16, i: u16, j: u16) {
+    fn add_neither(&mut self, l: u16, i: u16, j: u16)
+        ensures { self.new.line ≡ self.old.line }
+    {
         match self.room.checked_sub(1) {
             Some(room) => {
                 self.room = room;

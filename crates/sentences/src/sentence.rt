@@ -1,19 +1,20 @@
 // The rule as one sentence in words. What follows a colon, to the end of its line or in the lines set in below it, belongs to it; "line 7"
 // refers to the numbered lines.
 ghost use Rattle.std.specs.Prelude.{◌≡◌, ◌<◌, length, IfSome};
-ghost use Rattle.sentences.specs.Pages.{Narrow};
+ghost use Rattle.sentences.specs.Pages.{Kept, Narrow};
 
 use crate::page;
 use crate::page::Page;
-use crate::parts::{Mark, Parts};
+use crate::parts::{Mark, OnAndOff, Parts};
 use sheets::lines::Line;
 use sheets::{format, lines, rules};
 use std::fmt;
-use std::fmt::{Display, Write};
+use std::fmt::Display;
 
 // ---- signals
 
-// That the signals of a set are on, or off: "signal 1 is on", "signals 1, 2 and 3 are off", "neither signal 1 nor signal 2 is on".
+// That the signals of a set are on, or off: "signal 1 is on", "signals 1, 2 and 3 are off", "neither signal 1 nor signal 2 is on". `on`
+// is what is said of them, and no kind of set; the set is the bits of a word, as in the format.
 #[derive(Clone, Copy)]
 struct Signals {
     set: u16,
@@ -57,13 +58,6 @@ impl Signals {
     }
 }
 
-// The signals among the parts of a line: those that are on, and those that are off; no words where there are none.
-#[derive(Clone, Copy)]
-struct OnAndOff {
-    on: u16,
-    off: u16,
-}
-
 impl OnAndOff {
     fn on(self) -> Signals {
         Signals {
@@ -79,18 +73,12 @@ impl OnAndOff {
         }
     }
 
-    fn among(parts: &Parts) -> OnAndOff {
-        OnAndOff {
-            on: parts.on,
-            off: parts.off,
-        }
-    }
-
     fn none(self) -> bool {
         self.on | self.off == 0
     }
 }
 
+// Those that are on, and those that are off; no words where there are none.
 impl Display for OnAndOff {
     fn fmt<W: fmt::Write>(&self, f: &mut fmt::Formatter<W>) -> fmt::Result {
         let on = self.on();
@@ -156,7 +144,8 @@ impl Display for Part {
 // ---- places
 
 // Where a part is put: how many parts may be opened one in the other from there on, how far its line is set in, how many parts are still
-// to be put, this one and those after it, whether parts go on in the same line, and whether this one follows another.
+// to be put, this one and those after it, whether parts go on in the same line, and whether this one follows another. The two flags have
+// no value beside them that is there for one answer alone: a level and a number of parts are kept in the same line too.
 #[derive(Clone, Copy)]
 struct Place {
     deep: u16,
@@ -181,7 +170,7 @@ impl Place {
     {
         Place {
             owed: self.owed.wrapping_add(parts.rest),
-            second: !OnAndOff::among(parts).none(),
+            second: !parts.signals.none(),
             ..self
         }
     }
@@ -209,7 +198,7 @@ impl Place {
         ensures { IfSome result (λ place. place.deep < self.deep) }
     {
         let deep = self.deep.checked_sub(1)?;
-        let signals = OnAndOff::among(inner);
+        let signals = inner.signals;
         let left = page
             .room_behind(format_args!("{words}: {signals}"))
             .unwrap_or(0);
@@ -231,38 +220,47 @@ impl Place {
     }
 }
 
+// Here and below the page and the place are two: the page is written to, and a place is a value, which parts that are set in get anew.
+
 // "and", in the same line or in the next one.
-fn put_and(page: &mut Page, at: Place) -> fmt::Result {
+#[tactic(auto, using(crate::proofs::Pages::kept_then))]
+fn put_and(page: &mut Page, at: Place) -> fmt::Result
+    ensures { Kept page.old page.new }
+{
     if at.flow {
-        return page.write_str(", and ");
+        return page.put(b", and ");
     }
-    page.write_str(",")?;
+    page.put(b",")?;
     page.begin_line(at.level)?;
-    page.write_str("and ")
+    page.put(b"and ")
 }
 
 // The signals: in lines that are set in, those that are off go into the next one where the line has no room for both and a comma.
-fn put_signals(page: &mut Page, at: Place, signals: OnAndOff) -> fmt::Result {
+#[tactic(auto, using(crate::proofs::Pages::kept_then))]
+fn put_signals(page: &mut Page, at: Place, signals: OnAndOff) -> fmt::Result
+    ensures { Kept page.old page.new }
+{
     let whole = at.flow
         || signals.on == 0
         || signals.off == 0
         || page.room_behind(signals).unwrap_or(0) >= COMMA;
     if whole {
-        return write!(page, "{signals}");
+        return page.say(signals);
     }
-    let on = signals.on();
-    let off = signals.off();
-    write!(page, "{on}")?;
+    page.say(signals.on())?;
     put_and(page, at)?;
-    write!(page, "{off}")
+    page.say(signals.off())
 }
 
 // The colon, and the line's end where the parts stand in lines of their own.
-fn put_colon(page: &mut Page, below: Place) -> fmt::Result {
+#[tactic(auto, using(crate::proofs::Pages::kept_then))]
+fn put_colon(page: &mut Page, below: Place) -> fmt::Result
+    ensures { Kept page.old page.new }
+{
     if below.flow {
-        return page.write_str(": ");
+        return page.put(b": ");
     }
-    page.write_str(":")?;
+    page.put(b":")?;
     page.begin_line(below.level)
 }
 
@@ -270,8 +268,11 @@ fn put_colon(page: &mut Page, below: Place) -> fmt::Result {
 
 // The parts of a line, joined by "and", each opened where there is room.
 #[cycle(parts)]
-fn put_parts(rule: &[u16], page: &mut Page, at: Place, parts: &Parts) -> fmt::Result {
-    put_signals(page, at, OnAndOff::among(parts))?;
+#[tactic(auto, using(crate::proofs::Pages::kept_then))]
+fn put_parts(rule: &[u16], page: &mut Page, at: Place, parts: &Parts) -> fmt::Result
+    ensures { Kept page.old page.new }
+{
+    put_signals(page, at, parts.signals)?;
     let mut there = at.behind_signals(parts);
     for l in 1..=parts.line {
         let mark = parts.mark_of(l);
@@ -288,20 +289,26 @@ fn put_parts(rule: &[u16], page: &mut Page, at: Place, parts: &Parts) -> fmt::Re
 
 // A part: opened where there is room, otherwise by the number of a line.
 #[cycle(parts)]
-fn put_part(rule: &[u16], page: &mut Page, at: Place, part: Part) -> fmt::Result {
+#[tactic(auto, using(crate::proofs::Pages::kept_then))]
+fn put_part(rule: &[u16], page: &mut Page, at: Place, part: Part) -> fmt::Result
+    ensures { Kept page.old page.new }
+{
     if let Some((words, line, mark)) = part.opened() {
         let inner = Parts::of(rule, line, mark);
         if let Some(below) = at.below(page, words, &inner) {
-            page.write_str(words)?;
+            page.say(words)?;
             put_colon(page, below)?;
             return put_parts(rule, page, below, &inner);
         }
     }
-    write!(page, "{part}")
+    page.say(part)
 }
 
 // The sentence of the rule, its last line, on an empty page.
-fn put_rule(rule: &[u16], page: &mut Page) -> fmt::Result {
+#[tactic(auto, using(crate::proofs::Pages::kept_then))]
+fn put_rule(rule: &[u16], page: &mut Page) -> fmt::Result
+    ensures { Kept page.old page.new }
+{
     let whole = Place {
         deep: 12,
         level: 1,

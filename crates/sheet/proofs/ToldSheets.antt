@@ -9,7 +9,6 @@ use mathlib.Core.List.{List}
 use mathlib.Core.Bool.{true, false, true≢false}
 use lib.ListN.{length}
 use Rattle.sheets.specs.Questions.{Refusal, none as no_refusal, Question, first_no}
-use Rattle.sheets.specs.Refusals as Numbers
 use Rattle.sheets.specs.Machine.{machine_refusal}
 use Rattle.sheets.specs.Rules.{lent, rule_refusal}
 use Rattle.sheets.specs.CheckAnswers.{Answered}
@@ -20,7 +19,7 @@ use Rattle.input.specs.Lines.{refused_line}
 use Rattle.input.specs.declared.refused.Refused.{Refused}
 use Rattle.sheet.specs.declared.answer.Sort.{Sort}
 use Rattle.sheet.specs.declared.answer.Sort.TheVariants.{Machine, Rules}
-use Rattle.sheet.specs.declared.answer.NotAccepted.TheVariants as Says
+use Rattle.sheet.specs.declared.answer.Form.TheVariants.{Bytes}
 use Rattle.sheet.specs.declared.answer.Told as Told·
 use Rattle.sheet.specs.Program.{Answer, by_question, by_refusal, questions, CheckedBytes, unreadable, words, Checked, as_bytes, line_bytes, Told}
 
@@ -44,7 +43,7 @@ unfolding line_bytes refused_line
 is-accepted (Ok u) e = refl
 is-accepted (Err refused) e = let z : ◌≡◌ {A = ℕ} 114 97 = cc in absurd (omega arith)
 
-as-bytes : (sort : Sort) (bytes : List ℕ) (answer : Answer) → Checked sort false bytes answer
+as-bytes : (sort : Sort) (bytes : List ℕ) (answer : Answer) → Checked sort Bytes bytes answer
     → (check : Result (Unit {0}) Refused) × (answer ≡ by_refusal check) × CheckedBytes sort bytes check
 as-bytes sort bytes answer (as_bytes {check = check} c) = (check, refl, c)
 
@@ -73,7 +72,7 @@ module _ (sort : Sort) (bytes : List ℕ) where
   refused-untaken check (unreadable no-count) other = refl
   refused-untaken check (words ok a) other = absurd (true≢false (sym ok ∙ other))
 
-  module _ (told : Told·.Told) (h : Told sort false bytes told) where
+  module _ (told : Told·.Told) (h : Told (record { sort = sort; form = Bytes }) bytes told) where
     abbrev checked : (check : Result (Unit {0}) Refused) × (told.answer ≡ by_refusal check) × CheckedBytes sort bytes check
     checked = as-bytes sort bytes told.answer h.answered
 
@@ -97,12 +96,12 @@ module _ (sort : Sort) (bytes : List ℕ) where
 
 -- ---- of a machine sheet and of a rule sheet; end results
 
-pub machine-accepted : (bytes : List ℕ) (told : Told·.Told) → Told Machine false bytes told
+pub machine-accepted : (bytes : List ℕ) (told : Told·.Told) → Told (record { sort = Machine; form = Bytes }) bytes told
     → (told.line ≡ line_bytes (Ok tt)) ↔ ((readable sheets_bytes (length bytes) ≡ true) × (machine_refusal (words_of bytes) ≡ 0))
 unfolding questions
 machine-accepted bytes told h = accepted-exactly Machine bytes told h
 
-pub rules-accepted : (bytes : List ℕ) (told : Told·.Told) → Told Rules false bytes told
+pub rules-accepted : (bytes : List ℕ) (told : Told·.Told) → Told (record { sort = Rules; form = Bytes }) bytes told
     → (told.line ≡ line_bytes (Ok tt)) ↔ ((readable sheets_bytes (length bytes) ≡ true) × (rule_refusal lent (words_of bytes) ≡ 0))
 unfolding questions
 rules-accepted bytes told h = accepted-exactly Rules bytes told h

@@ -1,12 +1,14 @@
 // What is answered to a sheet that is checked, and the line that says it.
-ghost use Rattle.std.specs.Prelude.{◌≡◌, Err};
+ghost use Rattle.std.specs.Prelude.{◌≡◌};
 ghost use Rattle.sheets.specs.CheckAnswers.{Answered};
 ghost use Rattle.sheet.specs.Program.{questions, CheckedBytes, CheckedText, Checked, line_bytes};
 ghost use Rattle.sheet.specs.Program as Program;
 ghost use Rattle.input.specs.declared.refused.Refused.TheVariants.{Question};
+ghost use Rattle.input.specs.declared.turn.TurnError.TheVariants as Why;
 ghost use Rattle.sheet.specs.declared.answer.NotAccepted.TheVariants as Says;
 
 use input::refused::Refused;
+use input::turn::TurnError;
 use input::{cut, limits, line};
 use sheets::checks;
 use sheets::refusal::Refusal;
@@ -21,12 +23,25 @@ pub enum Sort {
     Rules,
 }
 
-// Why the input is not accepted: it is refused; or, where it is a text, its first fault, or that it is too long.
+// The form that a sheet has: its bytes, or its text.
+#[derive(Clone, Copy, Debug, PartialEq, Eq)]
+pub enum Form {
+    Bytes,
+    Text,
+}
+
+// A check: of which sheet, and the form in which it is given.
+#[derive(Clone, Copy, Debug, PartialEq, Eq)]
+pub struct Check {
+    pub sort: Sort,
+    pub form: Form,
+}
+
+// Why the input is not accepted: it is refused; or it is no sheet's text, as the program says too where the text is to be bytes.
 #[derive(Clone, Copy, Debug, PartialEq, Eq)]
 pub enum NotAccepted {
     Refused(Refused),
-    Fault(Fault),
-    Long,
+    Text(TurnError),
 }
 
 impl From<Refused> for NotAccepted {
@@ -46,10 +61,10 @@ impl From<Refusal> for NotAccepted {
 }
 
 impl From<Fault> for NotAccepted {
-    ghost from_gives = { λ fault reason. reason ≡ Says.Fault fault };
+    ghost from_gives = { λ fault reason. reason ≡ Says.Text (Why.Fault fault) };
 
     fn from(fault: Fault) -> NotAccepted {
-        NotAccepted::Fault(fault)
+        NotAccepted::Text(TurnError::Fault(fault))
     }
 }
 
@@ -61,6 +76,7 @@ pub struct Told {
 }
 
 // The check of a sheet's words.
+#[tactic(auto, unfolding(crate::specs::Program::questions))]
 fn check_words(sort: Sort, words: &[u16]) -> Result<(), Refusal>
     ensures { Answered (questions sort words.now) result }
 {
@@ -85,7 +101,7 @@ fn check_text(sort: Sort, text: &[u8]) -> Result<(), NotAccepted>
     ensures { CheckedText sort text.now result }
 {
     if limits::TEXT_BYTES < text.len() {
-        return Err(NotAccepted::Long);
+        return Err(NotAccepted::Text(TurnError::LongText));
     }
     let mut words = [0u16; limits::SHEETS_WORDS];
     let count = read::words_of_text(text, &mut words)?;
@@ -93,44 +109,33 @@ fn check_text(sort: Sort, text: &[u8]) -> Result<(), NotAccepted>
     Ok(())
 }
 
-// The answer to the bytes of standard input, which are a text or the sheet's bytes.
-fn answer_to(sort: Sort, text: bool, input: &[u8]) -> Result<(), NotAccepted>
-    ensures { Checked sort text input.now result }
+// The answer to the bytes of standard input, which are the sheet's bytes or its text.
+fn answer_to(check: Check, input: &[u8]) -> Result<(), NotAccepted>
+    ensures { Checked check.sort check.form input.now result }
 {
-    let as_text = text;
-    if as_text {
-        return check_text(sort, input);
-    }
-    check_bytes(sort, input)?;
-    Ok(())
-}
-
-// The line of an input that is not accepted.
-fn line_of_refusal(reason: NotAccepted) -> Line
-    ensures { result ≡ line_bytes (Err reason) }
-{
-    match reason {
-        NotAccepted::Refused(refused) => line::refused(refused.number(), refused.sheet()),
-        NotAccepted::Fault(_) => Line::empty(),
-        NotAccepted::Long => Line::empty(),
+    match check.form {
+        Form::Bytes => Ok(check_bytes(check.sort, input)?),
+        Form::Text => check_text(check.sort, input),
     }
 }
 
 // The line of an answer.
+#[tactic(auto, unfolding(crate::specs::Program::line_bytes))]
 fn line_of(answer: Result<(), NotAccepted>) -> Line
     ensures { result ≡ line_bytes answer }
 {
     match answer {
         Ok(()) => Line::of(b"accepted\n"),
-        Err(reason) => line_of_refusal(reason),
+        Err(NotAccepted::Refused(refused)) => line::refused(refused.number(), refused.sheet()),
+        Err(NotAccepted::Text(_)) => Line::empty(),
     }
 }
 
 // What is told of the bytes of standard input.
-pub fn told_for(sort: Sort, text: bool, input: &[u8]) -> Told
-    ensures { Program.Told sort text input.now result }
+pub fn told_for(check: Check, input: &[u8]) -> Told
+    ensures { Program.Told check input.now result }
 {
-    let answer = answer_to(sort, text, input);
+    let answer = answer_to(check, input);
     let line = line_of(answer);
     Told { answer, line }
 }

@@ -2,14 +2,13 @@
 ghost use Rattle.std.specs.Prelude.{◌≡◌};
 ghost use Rattle.sheet.specs.Arguments.{same, check_of, alone, asked_of};
 
-use crate::answer::Sort;
+use crate::answer::{Check, Form, Sort};
 
-// A text turned into bytes, bytes into a text, or a sheet of a sort checked, given as a text or as bytes.
+// A sheet turned into a form, from the other one, or a sheet checked.
 #[derive(Clone, Copy, Debug, PartialEq, Eq)]
 pub enum Asked {
-    Bytes,
-    Text,
-    Check { sort: Sort, text: bool },
+    Turn(Form),
+    Check(Check),
 }
 
 // Whether two words are the same. A name in the code is an array, which `==` does not compare with a slice.
@@ -19,20 +18,20 @@ fn same(word: &[u8], name: &[u8]) -> bool
     word == name
 }
 
-// The check that a word names, if it names one.
-fn check_of(text: bool, word: &[u8]) -> Option<Asked>
-    ensures { result ≡ check_of text word.now }
+// The check of a sheet in a form that a word names, if it names one.
+fn check_of(form: Form, word: &[u8]) -> Option<Asked>
+    ensures { result ≡ check_of form word.now }
 {
     if same(word, b"machine") {
-        Some(Asked::Check {
+        Some(Asked::Check(Check {
             sort: Sort::Machine,
-            text,
-        })
+            form,
+        }))
     } else if same(word, b"rules") {
-        Some(Asked::Check {
+        Some(Asked::Check(Check {
             sort: Sort::Rules,
-            text,
-        })
+            form,
+        }))
     } else {
         None
     }
@@ -43,11 +42,11 @@ fn alone(word: &[u8]) -> Option<Asked>
     ensures { result ≡ alone word.now }
 {
     if same(word, b"bytes") {
-        Some(Asked::Bytes)
+        Some(Asked::Turn(Form::Bytes))
     } else if same(word, b"text") {
-        Some(Asked::Text)
+        Some(Asked::Turn(Form::Text))
     } else {
-        check_of(false, word)
+        check_of(Form::Bytes, word)
     }
 }
 
@@ -65,5 +64,5 @@ pub fn asked_for(count: usize, first: &[u8], second: &[u8]) -> Option<Asked>
     if !same(second, b"text") {
         return None;
     }
-    check_of(true, first)
+    check_of(Form::Text, first)
 }

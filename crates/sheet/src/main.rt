@@ -7,12 +7,9 @@
 mod answer; // answer.rt: what is answered to a sheet that is checked, and the line that says it
 mod asked; // asked.rt: what the arguments ask for
 
-ghost use Rattle.std.specs.Prelude.{◌≤◌, IfOk, length};
-
-use answer::{NotAccepted, Sort};
+use answer::{Check, Form, NotAccepted};
 use asked::Asked;
 use input::refused::OfOneSheet;
-use input::turn::TurnError;
 use input::{args, full, limits, turn};
 use std::io;
 use std::io::{Read, Write};
@@ -22,81 +19,64 @@ const USAGE: &str =
     "usage: sheet bytes (text in, bytes out), sheet text (bytes in, text out), or sheet machine, sheet rules (bytes in), sheet machine text, sheet rules text (text in): accepted, or refused and why";
 
 fn main(rt: HostRuntime) -> io::Result<()> {
-    let mut first = [0u8; 8];
-    let n = args::arg(&rt, 1, &mut first).unwrap_or(0);
-    let mut second = [0u8; 8];
-    let m = args::arg(&rt, 2, &mut second).unwrap_or(0);
-    let asked = asked::asked_for(args::arg_count(&rt), &first[..n], &second[..m]);
-    let mut from = rt.stdin();
-    let mut out = rt.stdout();
-    let mut err = rt.stderr();
+    let mut first_space = [0u8; 8];
+    let mut second_space = [0u8; 8];
+    let first = args::arg(&rt, 1, &mut first_space).unwrap_or(b"");
+    let second = args::arg(&rt, 2, &mut second_space).unwrap_or(b"");
+    let asked = asked::asked_for(args::arg_count(&rt), first, second);
+    let mut streams = Streams {
+        out: &mut rt.stdout(),
+        err: &mut rt.stderr(),
+    };
     match asked {
-        Some(Asked::Bytes) => bytes(&mut from, &mut out, &mut err),
-        Some(Asked::Text) => text(&mut from, &mut out, &mut err),
-        Some(Asked::Check { sort, text }) => check(&mut from, &mut out, &mut err, sort, text),
-        None => writeln!(err, "{USAGE}"),
+        Some(asked) => streams.answer(&mut rt.stdin(), asked),
+        None => writeln!(streams.err, "{USAGE}"),
     }
 }
 
-// Text in, bytes out. One byte more is read than is taken, so that a longer text is noticed.
-fn bytes<R: Read, W: Write, E: Write>(from: &mut R, out: &mut W, err: &mut E) -> io::Result<()> {
-    let mut text = [0u8; limits::TEXT_BYTES + 1];
-    let n = full::read_full(from, &mut text)?;
-    let mut sheet = [0u8; limits::SHEETS_BYTES];
-    let turned = turn::bytes_of_text(&text[..n], &mut sheet);
-    tell(out, err, turned, &sheet)
+// Standard output, and standard error for what is wrong with what is asked, with a text, or with bytes that are to be text.
+#[derive(Drop)]
+struct Streams<'a, W, E> {
+    out: &'a mut W,
+    err: &'a mut E,
 }
 
-// Bytes in, text out; six bytes of text are enough for a word.
-fn text<R: Read, W: Write, E: Write>(from: &mut R, out: &mut W, err: &mut E) -> io::Result<()> {
-    let mut sheet = [0u8; limits::SHEETS_BYTES + 1];
-    let n = full::read_full(from, &mut sheet)?;
-    let mut text = [0u8; write::WORD_BYTES * limits::SHEETS_WORDS];
-    let turned = turn::text_of_bytes(&sheet[..n], &mut text);
-    tell(out, err, turned, &text)
-}
-
-// Prints what is written, or what is wrong.
-fn tell<W: Write, E: Write>(
-    out: &mut W,
-    err: &mut E,
-    turned: Result<usize, TurnError>,
-    written: &[u8],
-) -> io::Result<()>
-    requires { IfOk turned (λ count. count ≤ length written.now) }
-{
-    match turned {
-        Ok(count) => say::text(out, &written[..count]),
-        Err(error) => writeln!(err, "{error}"),
+impl<W: Write, E: Write> Streams<'_, W, E> {
+    // What is asked of the input. One byte more is read than is taken of a text, and more than is taken of bytes, so that a longer input is
+    // noticed.
+    fn answer<R: Read>(&mut self, from: &mut R, asked: Asked) -> io::Result<()> {
+        let mut input = [0u8; limits::TEXT_BYTES + 1];
+        let n = full::read_full(from, &mut input)?;
+        match asked {
+            Asked::Turn(form) => self.turn(form, &input[..n]),
+            Asked::Check(check) => self.check(check, &input[..n]),
+        }
     }
-}
 
-// A sheet in; its line out, and a refusal in words, which name no sheet, since there is one only. One byte more is read than is taken of
-// a text, and more than is taken of bytes.
-fn check<R: Read, W: Write, E: Write>(
-    from: &mut R,
-    out: &mut W,
-    err: &mut E,
-    sort: Sort,
-    text: bool,
-) -> io::Result<()> {
-    let mut input = [0u8; limits::TEXT_BYTES + 1];
-    let n = full::read_full(from, &mut input)?;
-    let told = answer::told_for(sort, text, &input[..n]);
-    say::line(out, told.line)?;
-    match told.answer {
-        Ok(()) => Ok(()),
-        Err(NotAccepted::Refused(refused)) => {
-            let refused = OfOneSheet(refused);
-            writeln!(out, "refused: {refused}")
+    // The sheet in the form that is asked for, or what is wrong. Six bytes of text are enough for a word.
+    fn turn(&mut self, form: Form, input: &[u8]) -> io::Result<()> {
+        let mut written = [0u8; write::WORD_BYTES * limits::SHEETS_WORDS];
+        let turned = match form {
+            Form::Bytes => turn::bytes_of_text(input, &mut written),
+            Form::Text => turn::text_of_bytes(input, &mut written),
+        };
+        match turned {
+            Ok(count) => say::text(self.out, &written[..count]),
+            Err(error) => writeln!(self.err, "{error}"),
         }
-        Err(NotAccepted::Fault(fault)) => {
-            let error = TurnError::Fault(fault);
-            writeln!(err, "{error}")
-        }
-        Err(NotAccepted::Long) => {
-            let error = TurnError::LongText;
-            writeln!(err, "{error}")
+    }
+
+    // The line of a sheet that is checked, and a refusal in words, which name no sheet, since there is one only.
+    fn check(&mut self, check: Check, input: &[u8]) -> io::Result<()> {
+        let told = answer::told_for(check, input);
+        say::line(self.out, told.line)?;
+        match told.answer {
+            Ok(()) => Ok(()),
+            Err(NotAccepted::Refused(refused)) => {
+                let refused = OfOneSheet(refused);
+                writeln!(self.out, "refused: {refused}")
+            }
+            Err(NotAccepted::Text(error)) => writeln!(self.err, "{error}"),
         }
     }
 }

@@ -1,23 +1,29 @@
 -- An automaton's states by position, as questions 12 to 14 go over them: the list that was read is the chain, and what is asked of the
 -- transitions out of each state.
-use mathlib.Core.Path.{◌≡◌, refl, sym, ◌∙◌, ap}
+use mathlib.Core.Path.{◌≡◌, refl, sym, ◌∙◌}
 use mathlib.Core.Logic.{⊎_elim}
 use Prim.Native.Nat.{ℕ, zero, suc, ◌+◌, ◌-◌, ◌≤◌, ◌<◌}
 use native.Mathlib.Omega.{arith}
-use mathlib.Core.List.{List, [], ◌∷◌}
-use mathlib.Core.Bool.{Bool, true, false, not, ◌&&◌, and_assoc}
+use mathlib.Core.List.{List}
+use mathlib.Core.Bool.{Bool, false, not, ◌&&◌}
 use borrow.Author.Tests.{le-leb, lt-leb, ne_eqb}
-use lib.ListN.{length, get_or, take, drop}
+use lib.ListN.{length, get_or, take}
 use lib.Seq.{length-take-le, get_or-take, ext_get_or}
 use lib.Dec.{T, leb, eqb, leb→le}
-use Rattle.sheets.specs.Format.{chained_most, variables_most}
-use Rattle.sheets.specs.Words.{bit, within, all_of, how_many, chain}
-use Rattle.sheets.specs.Rules.{most, fits, lent, automata, states, variables, initial, states_of, transitions_of, mask, transitions_fit, automaton_fits, q9}
+use Rattle.std.specs.List.{list_all}
+use Rattle.std.proofs.lemmas.List.Folds.{list_all-map}
+use Rattle.sheets.specs.Format.{state_words, chained_most, variables_most, states_from}
+use Rattle.sheets.specs.Words.{bit, within, all_of, how_many}
+use Rattle.sheets.specs.Records.{record_word, record_at}
+use Rattle.sheets.specs.inner.Walkers.{records}
+use Rattle.sheets.specs.declared.walker.Record.{Record}
+use Rattle.sheets.proofs.EachRecord.{all-elements}
+use Rattle.sheets.specs.Rules.{total, automaton_total, most, fits, lent, automata, states, variables, initial, states_of, transitions_of, mask, transitions_fit, automaton_fits, q9}
 use Rattle.sheets.specs.inner.Gathered.{Listed}
 use Rattle.sheets.specs.declared.along.Numbers.{Numbers}
 use Rattle.sheets.proofs.Tests.{and_left}
 use Rattle.sheets.proofs.Search.{le-or-gt, each_at}
-use Rattle.sheets.proofs.ListedChains.{past_end, rest-most}
+use Rattle.sheets.proofs.ListedChains.{past_end}
 
 -- ---- valuations: question 13 numbers them from 1, a mask's bits from 0
 
@@ -65,46 +71,15 @@ pub fits-listed : (R : List ℕ) (x v : ℕ) (all : Numbers) → Listed (states_
     → all_of (take all.count all.numbers) (λ q. transitions_fit R v (take all.count all.numbers) (transitions_of R q)) ≡ automaton_fits lent R x
 fits-listed R x v all listed few ev = rw (ev, listed-all (states_of R x) all listed few) (sym (fits-if-few R x listed.count few))
 
--- ---- a chain that is read in pieces
+-- ---- question 13 of the states that a walker hands out
 
--- the chain goes on after its record at position k
-chain-after : (f : ℕ) (next : ℕ → ℕ) (x k : ℕ) → k < length (chain f next x) → drop (suc k) (chain f next x) ≡ chain (f - suc k) next (next (get_or (chain f next x) k 0))
-unfolding chain
-chain-after zero next x k h = absurd (omega arith)
-chain-after (suc f) next zero k h = absurd (omega arith)
-chain-after (suc f) next (suc x) zero h = let e : suc f - 1 ≡ f = omega arith in rw e
-chain-after (suc f) next (suc x) (suc k) h = let e : suc f - suc (suc k) ≡ f - suc k = omega arith in rw e (chain-after f next (next (suc x)) k (omega arith))
-
-all_split : (p : ℕ → Bool) (n : ℕ) (xs : List ℕ) → all_of xs p ≡ (all_of (take n xs) p && all_of (drop n xs) p)
-unfolding all_of
-all_split p zero xs = refl
-all_split p (suc n) [] = refl
-all_split p (suc n) (x ∷ xs) = ap (λ b. p x && b) (all_split p n xs) ∙ sym (and_assoc (p x) (all_of (take n xs) p) (all_of (drop n xs) p))
-
-module _ (p : ℕ → Bool) (f x : ℕ) (next : ℕ → ℕ) (all : Numbers) (listed : Listed (chain f next x) all) where
-  pub block_last : all.count ≤ chained_most → all_of (chain f next x) p ≡ all_of (take all.count all.numbers) p
-  block_last few = rw (listed-all (chain f next x) all listed few)
-
-  module _ (many : chained_most < all.count) where
-    pub block-left : chained_most < f
-    block-left = omega (arith, listed.count, rest-most (λ y k. next y) 3 f x)
-
-    block_more : all_of (chain f next x) p ≡ (all_of all.numbers p && all_of (chain (f - chained_most) next (next (get_or all.numbers (chained_most - 1) 0))) p)
-    block_more =
-        let long : chained_most < length (chain f next x) = omega (arith, listed.count) in
-        let same : all.numbers ≡ take chained_most (chain f next x) =
-        ext_get_or 0 all.numbers (take chained_most (chain f next x)) (listed.room ∙ sym (length-take-le chained_most (chain f next x) (omega arith)))
-        (λ i l. let m : i < chained_most = omega (arith, listed.room) in listed.each i m ∙ sym (get_or-take chained_most (chain f next x) i 0 m)) in
-        all_split p chained_most (chain f next x)
-        ∙ ap (λ zs. all_of (take chained_most (chain f next x)) p && all_of zs p) (chain-after f next x (chained_most - 1) (omega arith))
-        ∙ ap (λ (y : ℕ). all_of (take chained_most (chain f next x)) p && all_of (chain (f - chained_most) next (next y)) p) (sym (listed.each (chained_most - 1) (omega arith)))
-        ∙ ap (λ zs. all_of zs p && all_of (chain (f - chained_most) next (next (get_or all.numbers (chained_most - 1) 0))) p) (sym same)
-
-    pub block-fails : {b : Bool} → b ≡ all_of all.numbers p → b ≡ false → all_of (chain f next x) p ≡ false
-    block-fails e f = block_more ∙ rw (sym e ∙ f)
-
-    pub block-passes : {b : Bool} {y : ℕ} → b ≡ all_of all.numbers p → b ≡ true → y ≡ next (get_or all.numbers (chained_most - 1) 0) → all_of (chain f next x) p ≡ all_of (chain (f - chained_most) next y) p
-    block-passes e t ey = block_more ∙ rw (sym e ∙ t, ey)
+pub total-along : (R : List ℕ) (x v : ℕ) → v ≡ variables R x
+    → list_all (λ (s : Record). total R v (transitions_of R s.number)) (records (record_word R (states_from (automata R)) state_words) state_words (states R) (initial R x)) ≡ automaton_total R x
+unfolding automaton_total
+total-along R x v e =
+    rw e
+    (list_all-map (λ (s : Record). total R (variables R x) (transitions_of R s.number)) (record_at (record_word R (states_from (automata R)) state_words) state_words) (states_of R x)
+    ∙ all-elements (λ q. total R (variables R x) (transitions_of R q)) (states_of R x))
 
 -- the variables that question 9 has bounded
 pub few-variables : (R : List ℕ) (x : ℕ) → T (q9 lent R) → 1 ≤ x → x ≤ automata R → variables R x ≤ variables_most

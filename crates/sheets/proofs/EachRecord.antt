@@ -2,7 +2,7 @@
 -- they answer, where the closure answers a test of the number and is as it was after the call. Each law concludes an answer of the call,
 -- and takes its clause `ran`.
 use mathlib.Core.Path.{◌≡◌, refl, ap, ◌∙◌}
-use Prim.Native.Nat.{ℕ, zero, suc, ◌+◌, ◌-◌, ◌≤◌}
+use Prim.Native.Nat.{ℕ, zero, suc, ◌+◌, ◌-◌, ◌<◌, ◌≤◌}
 use native.Mathlib.Omega.{arith}
 use native.Mathlib.Numerals.{add-one}
 use mathlib.Core.Bool.{Bool, true, false, not, ◌&&◌, ◌||◌}
@@ -11,11 +11,13 @@ use denote.Param.Members.{Mut}
 use Rattle.std.specs.declared.ops.Range.{Range}
 use Rattle.std.specs.declared.ops.RangeInclusive.{RangeInclusive}
 use Rattle.std.specs.declared.option.Option.{Option}
-use Rattle.std.specs.Iterator.{AlwaysYields, ChecksAll, ChecksAny}
+use Rattle.std.specs.Iterator.{AlwaysYields, CallableAtEachTurn, ChecksAll, ChecksAny}
 use Rattle.std.specs.Range.{range_inclusive_start, range_inclusive_end, range_inclusive_exhausted, range_inclusive_len, range_inclusive_left, range_inclusive_steps, range_steps}
 use Rattle.std.specs.List.{range_with_len, list_all, list_any}
 use Rattle.std.specs.Fn.{Called}
 use Rattle.std.proofs.lemmas.Iterator.{YieldsList, YieldsList-from_range}
+use Rattle.std.proofs.lemmas.Iterator.Adapters.{serves_from_places}
+use Rattle.std.proofs.lemmas.List.FromFn.{length-range_with_len, get_or-range_with_len}
 use Rattle.std.proofs.lemmas.Iterator.Search.{all_from_yields_List, any_from_yields_List}
 use Rattle.sheets.specs.Words.{each, all_of}
 use Rattle.sheets.specs.inner.Positions.{some_below}
@@ -103,7 +105,7 @@ gives a (suc n) s e h = (
 fresh-left : {s : RangeInclusive ℕ} {a b n : ℕ} → b + 1 ≡ a + n → range_inclusive_start s ≡ a → range_inclusive_end s ≡ b → range_inclusive_exhausted s ≡ false → left s ≡ n
 fresh-left {s} l d e z = omega (arith, ap (range_inclusive_len gap (range_inclusive_start s) (range_inclusive_end s)) z)
 
-gives-fresh : {s : RangeInclusive ℕ} {a b : ℕ} (n : ℕ) → b + 1 ≡ a + n → range_inclusive_start s ≡ a → range_inclusive_end s ≡ b → range_inclusive_exhausted s ≡ false
+pub gives-fresh : {s : RangeInclusive ℕ} {a b : ℕ} (n : ℕ) → b + 1 ≡ a + n → range_inclusive_start s ≡ a → range_inclusive_end s ≡ b → range_inclusive_exhausted s ≡ false
     → YieldsList inclusive_steps (λ x. x) s (range_with_len a n)
 gives-fresh {s} {a} n l d e z = record { runs = gives a n s (fresh-left l d e z) (λ m. d) }
 
@@ -124,6 +126,13 @@ module _ {s u : RangeInclusive ℕ} {F : Type 0} {g : Mut F (ℕ × Unit {0}) Bo
         → ((x : ℕ) (b : Bool) (q : F) → Called g f (x, tt) b q → (q ≡ f) × (b ≡ not (p x))) → r ≡ not (each n p)
     any_record ran d e z k = any_from_yields_List (λ x. not (p x)) u f r ran (gives-fresh n (omega arith) d e z) k ∙ any-each p n
 
+-- over `1..=n`, where the closure asks for a number from 1 to n
+pub serves_records : {s : RangeInclusive ℕ} {F : Type 0} {R : F → ℕ → F → Type 0} {Q : F → ℕ → Type 0} {f : F} (n : ℕ) → range_inclusive_start s ≡ 1 → range_inclusive_end s ≡ n
+    → range_inclusive_exhausted s ≡ false → ((x : ℕ) (q : F) → R f x q → q ≡ f) → ((x : ℕ) → 1 ≤ x → x ≤ n → Q f x) → CallableAtEachTurn inclusive_steps R Q s f
+serves_records n d e z stays k =
+    serves_from_places (gives-fresh n (omega arith) d e z) stays
+    (λ x i l at. let i<n : i < n = omega (arith, l, length-range_with_len 1 n) in let is : x ≡ 1 + i = at ∙ get_or-range_with_len 1 n i x i<n in k x (omega arith) (omega arith))
+
 -- over `a..b`
 pub all_between : {u : Range ℕ} {F : Type 0} {g : Mut F (ℕ × Unit {0}) Bool} {f : F} {r : Bool} (a b : ℕ) (p q : ℕ → Bool) → ((i : ℕ) → p (a + i) ≡ q (i + 1))
     → ChecksAll (range_steps gap follows) g (record { start = a; end = b }) f r u → ((x : ℕ) (b : Bool) (q : F) → Called g f (x, tt) b q → (q ≡ f) × (b ≡ p x)) → r ≡ each (b - a) q
@@ -138,7 +147,7 @@ module _ {u : Range ℕ} {F : Type 0} {g : Mut F (ℕ × Unit {0}) Bool} {f : F}
   any_position ran k = any_from_yields_List p u f r ran (YieldsList-from_range 0 n n refl (omega arith)) k ∙ any_some p n
 
 -- over the elements of a list
-all-elements : (p : ℕ → Bool) (xs : List ℕ) → list_all p xs ≡ all_of xs p
+pub all-elements : (p : ℕ → Bool) (xs : List ℕ) → list_all p xs ≡ all_of xs p
 unfolding all_of
 all-elements p [] = refl
 all-elements p (x ∷ xs) = ap (λ t. p x && t) (all-elements p xs)

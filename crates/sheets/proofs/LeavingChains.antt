@@ -58,7 +58,7 @@ module _ (a : Leaving) (t m : ℕ) where
     }
 
     pub left-more : ((k : ℕ) → bit here.bits k ≡ at_k k)
-        → ((k w : ℕ) → k < chained_most → bit (get_or masks k 0) w ≡ (bit (get_or a.masks k 0) w || (bit m w && bit here.bits k)))
+        → ((k w : ℕ) → k < a.states.count → bit (get_or masks k 0) w ≡ (bit (get_or a.masks k 0) w || (bit m w && bit here.bits k)))
         → ((k : ℕ) → bit led.bits k ≡ (not (eqb m 0) && bit here.bits k))
         → there ≡ not (some_below chained_most (bit here.bits))
         → ((k : ℕ) → bit both.bits k ≡ (bit here.bits k && bit a.met.bits k)) → again ≡ not (some_below chained_most (bit both.bits))
@@ -69,7 +69,7 @@ module _ (a : Leaving) (t m : ℕ) where
         twice ∙ ap not (some_same (bit both.bits) (λ k. at_k k && bit a.met.bits k) (λ k. both_is k ∙ ap (λ b. b && bit a.met.bits k) (at k)) chained_most) in
         record {
           states = refl;
-          masks = λ k w l. masked k w (omega (arith, a.states.few)) ∙ ap (λ b. bit (get_or a.masks k 0) w || (bit m w && b)) (at k ∙ ap (λ b. b && eqb t (get_or a.states.numbers k 0)) (lt-ltb k a.states.count l));
+          masks = λ k w l. masked k w l ∙ ap (λ b. bit (get_or a.masks k 0) w || (bit m w && b)) (at k ∙ ap (λ b. b && eqb t (get_or a.states.numbers k 0)) (lt-ltb k a.states.count l));
           met = λ k. met_is k ∙ ap (λ b. bit a.met.bits k || b) (at k);
           led = λ k. more_is k ∙ ap (λ b. bit a.led.bits k || b) (marked k ∙ ap (λ b. not (eqb m 0) && b) (at k));
           once = refl;

@@ -1,13 +1,11 @@
--- The tables of an automaton by position: the masks out of one position more, and what the code reads of a chain's states is the automaton.
+-- The tables of an automaton by position: what the code reads of a chain's states is the automaton.
 use mathlib.Core.Path.{◌≡◌, refl, ◌∙◌}
-use mathlib.Core.Logic.{⊎_elim}
-use Prim.Native.Nat.{ℕ, ◌+◌, ◌-◌, ◌*◌, ◌≤◌, ◌<◌}
+use Prim.Native.Nat.{ℕ, ◌+◌, ◌-◌, ◌*◌, ◌<◌}
 use native.Mathlib.Omega.{arith}
 use mathlib.Core.List.{List}
 use mathlib.Core.Bool.{◌&&◌}
 use borrow.Author.Tests.{lt-ltb}
-use lib.ListN.{length, get_or, set}
-use lib.Seq.{get_or-set_same, get_or-set_other}
+use lib.ListN.{length, get_or}
 use lib.Dec.{ltb, eqb}
 use Rattle.sheets.specs.Format.{chained_most}
 use Rattle.sheets.specs.Words.{bit, within, any_of}
@@ -18,18 +16,6 @@ use Rattle.sheets.specs.declared.states.States.{States}
 use Rattle.sheets.specs.declared.position.ByPosition.{ByPosition}
 use Rattle.sheets.proofs.Tests.{passed}
 use Rattle.sheets.proofs.Search.{within_in}
-use Rattle.sheets.proofs.Positions.{below_split}
-
--- one mask out of position p more
-pub stored_at : (p : ℕ) (out masks : List ℕ) (k : ℕ) → chained_most * p + k < length out → ((j : ℕ) → j < k → get_or out (chained_most * p + j) 0 ≡ get_or masks j 0)
-    → (j : ℕ) → j < k + 1 → get_or (set out (chained_most * p + k) (get_or masks k 0)) (chained_most * p + j) 0 ≡ get_or masks j 0
-stored_at p out masks k room before j l = ⊎_elim old new (below_split k j l)
-  where
-    old : j < k → get_or (set out (chained_most * p + k) (get_or masks k 0)) (chained_most * p + j) 0 ≡ get_or masks j 0
-    old lt = get_or-set_other out (chained_most * p + k) (chained_most * p + j) (get_or masks k 0) 0 (λ e. omega arith) ∙ before j lt
-
-    new : j ≡ k → get_or (set out (chained_most * p + k) (get_or masks k 0)) (chained_most * p + j) 0 ≡ get_or masks j 0
-    new e = rw e (get_or-set_same out (chained_most * p + k) (get_or masks k 0) 0 room)
 
 -- the mask has the valuations under which the sheet goes from state p to state q
 abbrev pub Between : List ℕ → ℕ → ℕ → ℕ → Type 0
@@ -38,18 +24,6 @@ Between R p q m = (w : ℕ) → bit m w ≡ any_of (transitions_of R p) (λ y. b
 -- the masks out of the first p of the states, towards the first n
 abbrev pub From : List ℕ → List ℕ → ℕ → ℕ → List ℕ → Type 0
 From R states n p out = (i k : ℕ) → i < p → k < n → Between R (get_or states i 0) (get_or states k 0) (get_or out (chained_most * i + k) 0)
-
-pub from_more : (R states : List ℕ) (n p : ℕ) (out after masks : List ℕ) → n ≤ chained_most → From R states n p out
-    → ((k : ℕ) → k < n → get_or after (chained_most * p + k) 0 ≡ get_or masks k 0) → ((i : ℕ) → i < chained_most * p → get_or after i 0 ≡ get_or out i 0)
-    → ((k w : ℕ) → k < n → bit (get_or masks k 0) w ≡ any_of (transitions_of R (get_or states p 0)) (λ y. bit (mask R y) w && eqb (transition_target R y) (get_or states k 0)))
-    → From R states n (p + 1) after
-from_more R states n p out after masks few before here other goes i k l h w = ⊎_elim old new (below_split p i l)
-  where
-    old : i < p → bit (get_or after (chained_most * i + k) 0) w ≡ any_of (transitions_of R (get_or states i 0)) (λ y. bit (mask R y) w && eqb (transition_target R y) (get_or states k 0))
-    old lt = rw (other (chained_most * i + k) (omega arith)) (before i k lt h w)
-
-    new : i ≡ p → bit (get_or after (chained_most * i + k) 0) w ≡ any_of (transitions_of R (get_or states i 0)) (λ y. bit (mask R y) w && eqb (transition_target R y) (get_or states k 0))
-    new e = rw (e, here k h) (goes k w h)
 
 module _ (R : List ℕ) (x : ℕ) (a : ByPosition) (all : States) (counted : all.count ≡ length (states_of R x)) (at : (k : ℕ) → get_or all.numbers k 0 ≡ get_or (states_of R x) k 0) where
   pub tabled : a.variables ≡ variables R x → a.count ≡ all.count → a.numbers ≡ all.numbers

@@ -1,6 +1,6 @@
 -- Positions, which count from 0: the elements of a list by their positions, and what a loop over positions has: a test that some
 -- position below n passes, a set of positions as the bits of a word, and a table of rows.
-use mathlib.Core.Path.{◌≡◌, refl, sym, ◌∙◌, ap}
+use mathlib.Core.Path.{◌≡◌, refl, sym, ◌∙◌}
 use mathlib.Core.Logic.{◌⊎◌, inl, inr, ⊎_elim}
 use Prim.Native.Nat.{ℕ, zero, suc, ◌+◌, ◌^◌, ◌≤◌, ◌<◌}
 use native.Mathlib.Numerals.{add-one}
@@ -123,10 +123,6 @@ module _ (p : ℕ → Bool) (i : ℕ) where
 
   pub up_to-no : (k : ℕ) (h : Bool) → h ≡ up_to k → p k ≡ false → h ≡ up_to (k + 1)
   up_to-no k h e t = rw (up_to-more k, t, or-false (up_to k)) e
-
-  -- with position k, if it passes
-  pub up_to-next : (k : ℕ) (h g : Bool) → h ≡ up_to k → g ≡ (h || (p k && eqb i k)) → g ≡ up_to (k + 1)
-  up_to-next k h g e f = f ∙ ap (λ b. b || (p k && eqb i k)) e ∙ sym (up_to-more k)
 
 -- ---- a table: what each row below k has, after one store more
 

@@ -1,5 +1,5 @@
-// The sheet checks: the two entry points, for every slice of words, empty ones too, and questions 1 to 16 for the calls that take a
-// machine sheet and a rule sheet.
+// The sheet checks: the two entry points, for every slice of words, empty ones too, which C has two names for, and questions 1 to 16 for the
+// calls that take a machine sheet and a rule sheet.
 ghost use Rattle.sheets.specs.Machine as Machine;
 ghost use Rattle.sheets.specs.Rules as Rules;
 ghost use Rattle.sheets.specs.Sheets as Sheets;

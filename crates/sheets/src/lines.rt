@@ -80,7 +80,8 @@ impl<'a> LineRecord<'a> {
 
     // Words c + 1 to c + n refer to lines above this one.
     fn refers_above(&self, c: u16, n: u16) -> bool
-        requires { (c ≤ 1) × (n ≤ variables_most) }
+        requires place { c ≤ 1 }
+        requires few { n ≤ variables_most }
         ensures { result ≡ Rules.refers_above Rules.lent self.now.sheet.now self.now.number c n }
     {
         (c + 1..=c + n).all(|k| self.is_above(self.word(k)))
@@ -90,7 +91,7 @@ impl<'a> LineRecord<'a> {
     fn is_above(&self, k: u16) -> bool
         ensures { result ≡ within 1 (self.now.number - 1) k }
     {
-        (0 < k) & (k < self.number)
+        words::within(1, self.number.saturating_sub(1), k)
     }
 
     // Question 15 of a signal's words.
@@ -175,7 +176,7 @@ impl<'a> LineRecord<'a> {
     }
 }
 
-// The number of the operation of line j.
+// The number of the operation of line j, as it stands; `read_operation` says which operation has it.
 pub fn operation(r: &[u16], j: u16) -> u16
     ensures { result ≡ Rules.line_word Rules.lent r.now j operation_place }
 {
@@ -202,6 +203,7 @@ pub fn decode(r: &[u16], j: u16) -> Option<Line>
 {
     let record = LineRecord::new(r, j);
     let operation = record.operation().ok()?;
+    // An `if`, since `then` would make a closure of the line.
     if record.operands_fit(operation) {
         Some(record.line(operation))
     } else {
@@ -209,7 +211,7 @@ pub fn decode(r: &[u16], j: u16) -> Option<Line>
     }
 }
 
-// Question 15: a malformed line leaves the check there.
+// Question 15: a malformed line leaves the check there. The `let .. else` is the form that document 01 asks for.
 pub fn check_lines(r: &[u16]) -> Result<(), RuleQuestion>
     ensures { rule_refusal_of result ≡ first_no (Rules.line_questions Rules.lent r.now) }
 {
@@ -226,6 +228,7 @@ fn line_over(r: &[u16], j: u16, a: u16) -> bool
     ensures { result ≡ Rules.signal_most a (Rules.line Rules.lent r.now j) }
 {
     let record = LineRecord::new(r, j);
+    // By its number: with a `match` on the operation the proof did not close, since the last arm is not known to be no signal.
     if record.word(format::OPERATION) != Operation::Signal.number() {
         return true;
     }

@@ -15,7 +15,7 @@ pub enum Operation {
 }
 
 impl Operation {
-    // The number that a record has for it.
+    // The number that a record has for it. A cast, since an enum has its numbers by no other name; so it is with the questions' numbers.
     pub fn number(self) -> u16
         ensures { result ≡ number_of self }
     {
@@ -39,6 +39,7 @@ impl TryFrom<u16> for Operation {
 
     ghost try_from_gives = { Reads };
 
+    // The numbers stand here once more: an arm is a number, and one that took it from the enum would need a constant for each operation.
     fn try_from(number: u16) -> Result<Self, NoOperation> {
         match number {
             0 => Ok(Operation::Signal),

@@ -13,7 +13,8 @@ use crate::{automata, condition, format, rules};
 pub const MASKS: usize = format::CHAINED * format::CHAINED;
 
 // An automaton by position, of which the first is the initial one: its variables, the number of its states, the set of the accepting
-// positions, the mask from position p to position q at CHAINED p + q, and by position the number that names a state in a list.
+// positions, the mask from position p to position q at CHAINED p + q, and by position the number that names a state in a list. Arrays with
+// a count, since nothing is kept on the heap; the set is a word, as the masks beside it are.
 #[derive(Clone, Copy)]
 pub struct ByPosition {
     pub variables: u16,
@@ -23,7 +24,8 @@ pub struct ByPosition {
     pub numbers: [u16; format::CHAINED],
 }
 
-// Writes the masks out of position p towards the first n positions.
+// Writes the masks out of position p towards the first n positions, one by one: a copy of the row would be of two slices, each with bounds
+// of its own.
 fn put_masks(out: &mut [u16; MASKS], p: u16, n: u16, masks: [u16; format::CHAINED])
     requires from { p < chained_most }
     requires towards { n ≤ chained_most }

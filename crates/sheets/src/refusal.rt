@@ -2,7 +2,7 @@
 ghost use Rattle.std.specs.Prelude.{◌≡◌};
 ghost use Rattle.sheets.specs.Refusals.{number_of, sheet_of};
 ghost use Rattle.sheets.specs.declared.refusal.Side.TheVariants.{First};
-ghost use Rattle.sheets.specs.declared.refusal.Refusal.TheVariants.{Machine, Rules, Call};
+ghost use Rattle.sheets.specs.declared.refusal.Refusal.TheVariants.{Machine, Rules};
 
 // Questions 1 to 6, put to a machine sheet.
 #[derive(Clone, Copy, Debug, PartialEq, Eq)]
@@ -68,7 +68,7 @@ impl Refusal {
         }
     }
 
-    // The number of the machine sheet that it is put to, 0 where it is put to none.
+    // The number of the machine sheet that it is put to, 0 where it is put to none: so the C interface hands it out.
     pub fn sheet(self) -> u16
         ensures { result ≡ sheet_of self }
     {
@@ -93,13 +93,5 @@ impl From<RuleQuestion> for Refusal {
 
     fn from(question: RuleQuestion) -> Refusal {
         Refusal::Rules(question)
-    }
-}
-
-impl From<CallQuestion> for Refusal {
-    ghost from_gives = { λ question refusal. refusal ≡ Call question };
-
-    fn from(question: CallQuestion) -> Refusal {
-        Refusal::Call(question)
     }
 }

@@ -7,7 +7,7 @@ ghost use Rattle.sheets.specs.inner.Positions.{some_below};
 use crate::{format, words};
 
 // Position p has the state with the record number numbers[p], below the count. The array has room for the most, since nothing is kept on
-// the heap; so it is in the other types with an array here (`Relation`, `ByPosition`).
+// the heap.
 #[derive(Clone, Copy)]
 pub struct States {
     pub count: u16,
@@ -15,7 +15,8 @@ pub struct States {
     ghost few: { count ≤ chained_most },
 }
 
-// The word where the answer is yes, and else 0.
+// The word where the answer is yes, and else 0. Here and in `only_if` and `with` the answer is a test's own, which chooses no step: it
+// keeps bits or drops them.
 pub fn kept(word: u16, yes: bool) -> u16
     ensures { (k : ℕ) → Words.bit result k ≡ (yes && Words.bit word k) }
 {

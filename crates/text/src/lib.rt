@@ -4,5 +4,5 @@
 pub mod line; // line.rt: a short line of bytes as a value
 pub mod read; // read.rt: the words of a text, or its first fault
 mod reader; // reader.rt: a text read byte by byte
-pub mod say; // say.rt: a text, a line or a number, to a writer
+pub mod say; // say.rt: a text or a line, to a writer
 pub mod write; // write.rt: the text of words

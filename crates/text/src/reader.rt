@@ -5,7 +5,7 @@ ghost use Rattle.text.specs.inner.Readers.{Moves, start_of, stopped_at, Steps};
 
 use crate::read::{Fault, Kind, Place};
 
-// What a byte is between comments.
+// What a byte is between comments: three kinds, so no Option.
 #[derive(Clone, Copy, Debug, PartialEq, Eq)]
 pub enum Sort {
     Blank,
@@ -13,7 +13,7 @@ pub enum Sort {
     Other,
 }
 
-// What stands before a byte: a gap, a number with the place of its first digit, or a fault.
+// What stands before a byte: a gap, a number with the place of its first digit, or a fault. Three kinds, so no Result.
 #[derive(Clone, Copy, Debug, PartialEq, Eq)]
 pub enum State {
     Gap,
@@ -22,7 +22,7 @@ pub enum State {
 }
 
 // A reader before a byte: whether the byte before it belongs to a comment, the byte's place, the words that there is room for from there
-// on, and what stands before it.
+// on, and what stands before it. `comment` is no kind of state: a comment counts as a space, whatever stands before.
 #[derive(Clone, Copy, Debug, PartialEq, Eq)]
 pub struct Reader {
     pub comment: bool,
@@ -48,7 +48,7 @@ impl From<u8> for Sort {
 fn is_blank(byte: u8) -> bool
     ensures { result ≡ Texts.blank byte }
 {
-    (byte == b' ') | (byte == b'\t') | (byte == b'\r') | (byte == b'\n')
+    matches!(byte, b' ' | b'\t' | b'\r' | b'\n')
 }
 
 impl Place {
@@ -151,17 +151,12 @@ impl Reader {
             },
             Sort::Digit { value: digit } => {
                 let longer = 10 * u32::from(value) + u32::from(digit);
-                let fits = longer <= 65535;
-                if fits {
-                    Reader {
-                        state: State::Number {
-                            from,
-                            value: longer as u16,
-                        },
+                match u16::try_from(longer) {
+                    Ok(value) => Reader {
+                        state: State::Number { from, value },
                         ..self
-                    }
-                } else {
-                    self.stopped(Kind::Above, from)
+                    },
+                    Err(_) => self.stopped(Kind::Above, from),
                 }
             }
             Sort::Other => self.stopped(Kind::NotDecimal, self.at),

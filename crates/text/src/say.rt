@@ -1,5 +1,5 @@
-// Words for a reader, to a writer: a text, a line, a number. What each adds to a writer is said, where the writer says what it holds.
-ghost use Rattle.std.specs.Prelude.{OnOk, decimal};
+// Words for a reader, to a writer: a text, a line. What each adds to a writer is said, where the writer says what it holds.
+ghost use Rattle.std.specs.Prelude.{OnOk};
 ghost use Rattle.std.specs.Io.KnownBytes.{Appends};
 
 use crate::line::Line;
@@ -18,11 +18,4 @@ pub fn line<W: Write>(out: &mut W, line: Line) -> io::Result<()>
     ensures { OnOk result (Appends (W.contents out.old) (W.contents out.new) line) }
 {
     text(out, line.as_slice())
-}
-
-// Prints a number in decimal digits.
-pub fn number<W: Write>(out: &mut W, n: u16) -> io::Result<()>
-    ensures { OnOk result (Appends (W.contents out.old) (W.contents out.new) (decimal n)) }
-{
-    write!(out, "{n}")
 }

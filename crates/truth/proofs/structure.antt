@@ -4,4 +4,3 @@ pub mod ChainRows
 pub mod EdgesBack
 pub mod EdgesAdded
 pub mod TargetRows
-pub mod NotedMarks

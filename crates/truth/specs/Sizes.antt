@@ -55,6 +55,10 @@ pairs_most = positions_most * nodes_most
 abbrev pub pair_at : ℕ → ℕ → ℕ
 pair_at p s = nodes_most * p + (s - 1)
 
+-- a table with a place for each number of a node
+abbrev pub node_places : ℕ
+node_places = 256
+
 -- ---- the space in which a path call labels the lines above the asked one: a row a line
 abbrev pub lines_words : ℕ
 lines_words = row_words * lines_most

@@ -1,5 +1,6 @@
 -- What functions below the entry points promise each other: descriptions of inner loops and of the tables that they fill.
 pub mod Rows
+pub mod Marks
 pub mod Targets
 pub mod Pairs
 pub mod Links

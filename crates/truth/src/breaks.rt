@@ -9,10 +9,5 @@ use sheets::machine;
 pub fn first_break(m: &[u16], row: Row) -> Option<u16>
     ensures { FirstOutside m.now (row_has row) result }
 {
-    for s in 1..=machine::nodes(m) {
-        if machine::start_flag(m, s) == 1 && !row.has(s) {
-            return Some(s);
-        }
-    }
-    None
+    (1..=machine::nodes(m)).find(|s| machine::start_flag(m, *s) == 1 && !row.has(*s))
 }

@@ -1,4 +1,4 @@
-// What the crate above takes of the sheet reader, passed on: why a call is refused, the questions of a machine sheet, its nodes and
+// What the sheet reader has for the crates above, passed on: why a call is refused, the questions of a machine sheet, its nodes and
 // signals, the operations of a line, and the format of a written rule.
 pub use sheets::checks::check_machine;
 pub use sheets::format::rule_space;
@@ -22,7 +22,7 @@ pub const NEXT_HEAD: usize = format::NEXT_HEAD;
 // The word of a rule sheet's header that has the number of lines.
 pub const LINES_WORD: usize = rules::LINES_WORD;
 
-// The places of a line's operation and of its operands.
+// The places of a line's operation and of its operands: all that a line has, also those that no crate here takes.
 pub const OPERATION: usize = format::OPERATION as usize;
 
 pub const OPERAND: usize = format::OPERAND as usize;

@@ -17,7 +17,8 @@ use crate::tables::{line_row, set_line_row};
 use sheets::refusal::{CallQuestion, Refusal};
 use sheets::{checks, machine, rules};
 
-// What labelling finds: whether the rule is kept, and the count and percent of the nodes where its last line is true.
+// What labelling finds: whether the rule is kept, and the count and percent of the nodes where its last line is true. `kept` is an answer by
+// itself: the numbers stand either way.
 #[derive(Clone, Copy, Debug, PartialEq, Eq)]
 pub struct Labelled {
     pub kept: bool,
@@ -38,7 +39,10 @@ fn check_labelling(m: &[u16], r: &[u16], space: usize) -> Result<(), Refusal>
 
 // Writes the row of each line from the first to the given one.
 pub fn label_lines(m: &[u16], r: &[u16], rows: &mut [u64], upto: u16)
-    requires { (Machine.machine_refusal m.now ≡ 0) × ((Rules.rule_refusal Rules.lent r.now ≡ 0) × ((upto ≤ Rules.lines r.now) × (row_words * upto ≤ length rows.old))) }
+    requires machine { Machine.machine_refusal m.now ≡ 0 }
+    requires rules { Rules.rule_refusal Rules.lent r.now ≡ 0 }
+    requires lines { upto ≤ Rules.lines r.now }
+    requires room { row_words * upto ≤ length rows.old }
     ensures { Labelling.RowsTo m.now r.now upto rows.old rows.new }
 {
     let next = structure::successors(m);
@@ -66,7 +70,8 @@ fn keeps(m: &[u16], last: Row) -> bool
 
 // The whole percent of c among n, a half rounded to the even neighbour.
 fn percent(c: u32, n: u16) -> u32
-    requires { (c ≤ members_most) × (1 ≤ n) }
+    requires few { c ≤ members_most }
+    requires some { 1 ≤ n }
     ensures { result ≡ Labelling.percent c n }
 {
     let whole = n as u32;
@@ -92,7 +97,7 @@ pub fn label(m: &[u16], r: &[u16], rows: &mut [u64]) -> Result<Labelled, Refusal
     let count = last.count();
     Ok(Labelled {
         kept: keeps(m, last),
-        count: count,
+        count,
         percent: percent(count, machine::nodes(m)),
     })
 }

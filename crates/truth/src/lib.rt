@@ -3,6 +3,7 @@
 
 pub mod sizes; // sizes.rt: the sizes of rows and tables
 pub mod rows; // rows.rt: a set of nodes as a value
+pub mod marks; // marks.rt: marks of nodes, and which of them there are
 pub mod structure; // structure.rt: the machine's structure in rows
 pub mod tables; // tables.rt: tables of rows
 mod product; // product.rt: the automaton of a path line beside the machine

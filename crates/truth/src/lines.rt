@@ -4,7 +4,7 @@ ghost use Rattle.sheets.specs.Words.{within};
 ghost use Rattle.sheets.specs.Machine as Machine;
 ghost use Rattle.sheets.specs.Structures.{Automaton};
 ghost use Rattle.sheets.specs.inner.Tabled.{Tabled};
-ghost use Rattle.truth.specs.Sizes.{members_most, row_words, table_words};
+ghost use Rattle.truth.specs.Sizes.{members_most, row_words};
 ghost use Rattle.truth.specs.inner.Rows.{row_has, rows_has};
 ghost use Rattle.truth.specs.inner.Pairs.{NoRow, NoTime};
 ghost use Rattle.truth.specs.inner.Product.{line_at, argument_of};
@@ -32,17 +32,16 @@ pub struct Sheets<'a> {
 
 // The sets of pairs of a path line: the largest lasting set of good pairs, and the pairs that reach it.
 #[derive(Clone, Copy)]
-struct Sets {
-    lasting: [u64; SET_WORDS],
-    reached: [u64; SET_WORDS],
+pub struct Sets {
+    pub lasting: [u64; SET_WORDS],
+    pub reached: [u64; SET_WORDS],
 }
 
 // The tables of a path line, solved.
 #[derive(Clone, Copy)]
 pub struct Solved {
     pub allow: [u64; TABLE_WORDS],
-    pub lasting: [u64; SET_WORDS],
-    pub reached: [u64; SET_WORDS],
+    pub sets: Sets,
     pub times: [u16; PAIRS],
 }
 
@@ -83,19 +82,17 @@ impl Sheets<'_> {
         moves.set_masks(&variables, &a.masks);
         let goods = product::good_table(variables.nodes, a.count, a.accepting, exchanged);
         let product = Product {
-            allow: &moves.allow,
+            moves,
             next: self.next,
             back: self.back,
-            into: &moves.into,
-            onto: &moves.onto,
-            count: moves.count,
         };
         let lasting = product.trim(goods);
         let reached = product.grow(lasting, times);
         Sets { lasting, reached }
     }
 
-    // Solves one with times, by which a path is found.
+    // Solves one with times, by which a path is found. What is solved is handed on as it came: a struct of it would be made at two places, by
+    // the path call and by `path_row`, to be taken apart at one.
     pub fn solve(
         &self,
         rows: &[u64],
@@ -104,20 +101,13 @@ impl Sheets<'_> {
         exchanged: bool,
     ) -> Solved
         requires { Solvable self.now.machine.now self.now.next.now self.now.back.now rows.now (line_at lines) a }
-        ensures { (A : Automaton) (t : ℕ) (name : ℕ → ℕ) → Tabled A t name a → SolvedLine self.now.machine.now A t self.now.next.now rows.now (line_at lines) exchanged result.allow result.lasting result.reached result.times }
+        ensures { (A : Automaton) (t : ℕ) (name : ℕ → ℕ) → Tabled A t name a → SolvedLine self.now.machine.now A t self.now.next.now rows.now (line_at lines) exchanged result.allow result.sets.lasting result.sets.reached result.times }
     {
         let mut moves = Moves::none(a.count);
         let mut times = [0u16; PAIRS];
         let sets = self.solve_with(rows, lines, a, exchanged, &mut moves, &mut times);
         let allow = moves.allow;
-        let lasting = sets.lasting;
-        let reached = sets.reached;
-        Solved {
-            allow,
-            lasting,
-            reached,
-            times,
-        }
+        Solved { allow, sets, times }
     }
 
     // The nodes from which the path of a path line exists; for them no times are kept.

@@ -1,8 +1,8 @@
 // The path handed over as a list of pairs of node and state: a lent slice of structs, which one loop writes.
-ghost use Rattle.std.specs.Prelude.{◌≡◌, ◌≤◌, ◌++◌, length, take, drop};
+ghost use Rattle.std.specs.Prelude.{◌≡◌, ◌≤◌, ◌++◌, length, drop};
 ghost use Rattle.truth.specs.PathPairs.{pair_nodes, pair_states, PairsAnswer};
 
-use crate::path::{Shown, length_of, make_within};
+use crate::path::{Call, Shown, length_of};
 use sheets::refusal::Refusal;
 
 // A place of the list; a state is given by its record number. C code has the same struct.
@@ -13,15 +13,17 @@ pub struct Pair {
     pub state: u16,
 }
 
-// Writes the first n nodes and states to the list, as pairs.
-fn write_pairs(list: &mut [Pair], nodes: &[u8], states: &[u16], n: usize)
-    requires { (n ≤ length list.old) × ((n ≤ length nodes.now) × (n ≤ length states.now)) }
-    ensures { (pair_nodes list.new ≡ take n nodes.now ++ drop n (pair_nodes list.old)) × (pair_states list.new ≡ take n states.now ++ drop n (pair_states list.old)) }
+// Writes the nodes and the states to the head of the list, as pairs.
+fn write_pairs(list: &mut [Pair], nodes: &[u8], states: &[u16])
+    requires as_many { length states.now ≡ length nodes.now }
+    requires room { length nodes.now ≤ length list.old }
+    ensures by_node { pair_nodes list.new ≡ nodes.now ++ drop (length nodes.now) (pair_nodes list.old) }
+    ensures by_state { pair_states list.new ≡ states.now ++ drop (length states.now) (pair_states list.old) }
 {
-    for i in 0..n {
+    for (i, (node, state)) in nodes.iter().zip(states).enumerate() {
         list[i] = Pair {
-            node: u16::from(nodes[i]),
-            state: states[i],
+            node: u16::from(*node),
+            state: *state,
         };
     }
 }
@@ -36,9 +38,15 @@ pub fn path(
 ) -> Result<Option<Shown>, Refusal>
     ensures { PairsAnswer m.now r.now line node list.old list.new result }
 {
-    let made = make_within(m, r, line, node, list.len());
+    let call = Call {
+        machine: m,
+        rules: r,
+        line,
+        node,
+    };
+    let made = call.make_within(list.len());
     let answer = made.answer;
     let count = length_of(answer) as usize;
-    write_pairs(list, &made.nodes, &made.states, count);
+    write_pairs(list, &made.nodes[..count], &made.states[..count]);
     answer
 }

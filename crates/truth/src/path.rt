@@ -1,17 +1,13 @@
 // The path call: a list of nodes and states that shows a path for a true path line at a node.
-ghost use Rattle.std.specs.Prelude.{◌≡◌, ◌&&◌, ℕ, ◌-◌, min, ◌<◌, ◌≤◌, List, ◌++◌, length, get_or, take, drop};
+ghost use Rattle.std.specs.Prelude.{◌≡◌, min, ◌<◌, ◌≤◌, ◌++◌, length, drop, slice_index, EachIndex};
 ghost use Rattle.sheets.specs.CheckAnswers.{Answered};
-ghost use Rattle.sheets.specs.Words.{within};
-ghost use Rattle.sheets.specs.Machine as Machine;
-ghost use Rattle.sheets.specs.Rules as Rules;
-ghost use Rattle.truth.specs.Sizes.{positions_most, members_most, table_rows, pairs_most};
-ghost use Rattle.truth.specs.inner.OneLine.{Ready, PathReady};
+ghost use Rattle.truth.specs.Sizes.{positions_most, pairs_most};
+ghost use Rattle.truth.specs.inner.OneLine.{Successors, Ready};
 ghost use Rattle.truth.specs.inner.Product.{argument_of};
-ghost use Rattle.truth.specs.inner.Rows.{rows_has};
 ghost use Rattle.truth.specs.Path as Path;
 ghost use Rattle.truth.specs.PathAnswers.{length_of, PathAnswer};
 ghost use Rattle.truth.specs.inner.Made.{MadeFor};
-ghost use Rattle.truth.specs.inner.Shows.{ShowsLine};
+ghost use Rattle.truth.specs.inner.Shows.{Askable, ShowsLine};
 
 use crate::labelling::label_lines;
 use crate::lines::Sheets;
@@ -40,169 +36,187 @@ pub struct Made {
     pub states: [u16; PAIRS],
 }
 
-// Line 0 means the last line: the C interface has it so.
-fn asked(r: &[u16], line: u16) -> u16
-    ensures { result ≡ Path.asked r.now line }
-{
-    if line == 0 { rules::lines(r) } else { line }
+// A path call: both sheets, the line that is asked about, and the node.
+#[derive(Clone, Copy)]
+pub struct Call<'a> {
+    pub machine: &'a [u16],
+    pub rules: &'a [u16],
+    pub line: u16,
+    pub node: u16,
 }
 
-// The questions of a path call, in order, for a list with room for so many pairs. The four arguments of the call are handed on from here as
-// they came: a struct of them would be made in one function and taken apart in the next.
-fn check_path(m: &[u16], r: &[u16], line: u16, node: u16, room: usize) -> Result<(), Refusal>
-    ensures { Answered (Path.path_questions m.now r.now line node room) result }
-{
-    checks::check_sheets(m, r)?;
-    if !q18(m, r, line, node) {
-        return Err(Refusal::Call(CallQuestion::PathLine));
-    }
-    if !q19(m, r, line, room) {
-        return Err(Refusal::Call(CallQuestion::PathSpace));
-    }
-    Ok(())
+// The asked line of an accepted call: the call, the rows of the lines above, the line taken apart, and whether accepting and non-accepting
+// states are exchanged, as operation 4 has them: a value, as `Sheets::solve_with` says.
+#[derive(Clone, Copy)]
+struct AskedLine<'a> {
+    call: Call<'a>,
+    rows: &'a [u64],
+    line: PathLine,
+    exchanged: bool,
+    ghost askable: { Askable call.machine.now call.rules.now rows.now (argument_of line) line.automaton call.node },
 }
 
-fn q18(m: &[u16], r: &[u16], line: u16, node: u16) -> bool
-    ensures { result ≡ Path.q18 m.now r.now line node }
+// Each position of the list becomes the state at that position, by its record number.
+fn name_states(states: &[u16; format::CHAINED], list: &mut [u16])
+    requires { EachIndex list.old (λ i. slice_index list.old i < positions_most) }
+    ensures { EachIndex list.old (λ i. slice_index list.new i ≡ slice_index states.now (slice_index list.old i)) }
 {
-    let j = asked(r, line);
-    if !sheets::words::within(1, rules::lines(r), j) {
-        return false;
-    }
-    if !sheets::words::within(1, machine::nodes(m), node) {
-        return false;
-    }
-    match read_operation(r, j) {
-        Ok(operation) => operation.is_path(),
-        Err(_) => false,
-    }
-}
-
-fn q19(m: &[u16], r: &[u16], line: u16, room: usize) -> bool
-    ensures { result ≡ Path.q19 m.now r.now line room }
-{
-    let p = path_line(r, asked(r, line));
-    let n = machine::nodes(m) as usize;
-    let t = position::state_count(r, p.automaton) as usize;
-    n * t <= room
-}
-
-// The states at the first `count` positions of the list, by their record numbers, in the positions' place.
-fn named(states: [u16; format::CHAINED], positions: [u16; PAIRS], count: u16) -> [u16; PAIRS]
-    requires { (count ≤ pairs_most) × ((i : ℕ) → i < count → get_or positions i 0 < positions_most) }
-    ensures { (i : ℕ) → i < count → get_or result i 0 ≡ get_or states (get_or positions i 0) 0 }
-{
-    let mut out = positions;
-    for place in out[..count as usize].iter_mut() {
+    for place in list.iter_mut() {
         *place = states[*place as usize];
     }
-    out
 }
 
-// The list for a path line at node s, by the rows above it: no path where the solved line's row has not the node.
-fn show(
-    m: &[u16],
-    r: &[u16],
-    next: &[u64; TABLE_WORDS],
-    back: &[u64; TABLE_WORDS],
-    rows: &[u64],
-    p: PathLine,
-    exchanged: bool,
-    s: u16,
-) -> Made
-    requires { (PathReady m.now r.now next.now back.now rows.now (argument_of p) p.automaton) × ((1 ≤ s) × (s ≤ Machine.nodes m.now)) }
-    ensures { ShowsLine m.now r.now rows.now (argument_of p) p.automaton exchanged s result.nodes result.states result.answer }
-{
-    let a = position::by_position(r, p.automaton);
-    let t = a.count;
-    let numbers = a.numbers;
-    let sheets = Sheets {
-        machine: m,
-        rules: r,
-        next,
-        back,
-    };
-    let solved = sheets.solve(rows, p.lines, a, exchanged);
-    let row = load(&solved.reached, 0);
-    if !row.has(s) {
-        return Made {
-            nodes: [0u8; PAIRS],
-            answer: Ok(None),
-            states: [0u16; PAIRS],
+impl Call<'_> {
+    // The number of the asked line. Line 0 means the last line: the C interface has it so.
+    fn asked(&self) -> u16
+        ensures { result ≡ Path.asked self.now.rules.now self.now.line }
+    {
+        if self.line == 0 {
+            rules::lines(self.rules)
+        } else {
+            self.line
+        }
+    }
+
+    // The questions of a path call, in order, for a list with room for so many pairs.
+    fn check_path(&self, room: usize) -> Result<(), Refusal>
+        ensures { Answered (Path.path_questions self.now.machine.now self.now.rules.now self.now.line self.now.node room) result }
+    {
+        checks::check_sheets(self.machine, self.rules)?;
+        if !self.q18() {
+            return Err(Refusal::Call(CallQuestion::PathLine));
+        }
+        if !self.q19(room) {
+            return Err(Refusal::Call(CallQuestion::PathSpace));
+        }
+        Ok(())
+    }
+
+    fn q18(&self) -> bool
+        ensures { result ≡ Path.q18 self.now.machine.now self.now.rules.now self.now.line self.now.node }
+    {
+        let r = self.rules;
+        let j = self.asked();
+        if !sheets::words::within(1, rules::lines(r), j) {
+            return false;
+        }
+        if !sheets::words::within(1, machine::nodes(self.machine), self.node) {
+            return false;
+        }
+        read_operation(r, j).is_ok_and(|operation| operation.is_path())
+    }
+
+    fn q19(&self, room: usize) -> bool
+        ensures { result ≡ Path.q19 self.now.machine.now self.now.rules.now self.now.line room }
+    {
+        let r = self.rules;
+        let p = path_line(r, self.asked());
+        let n = machine::nodes(self.machine) as usize;
+        let t = position::state_count(r, p.automaton) as usize;
+        n * t <= room
+    }
+
+    // Labels the lines above the asked one and makes the list for it, or says why there is none.
+    fn make(&self, room: usize) -> Made
+        ensures { MadeFor self.now.machine.now self.now.rules.now self.now.line self.now.node room result.nodes result.states result.answer }
+    {
+        if let Err(refusal) = self.check_path(room) {
+            return Made {
+                nodes: [0u8; PAIRS],
+                answer: Err(refusal),
+                states: [0u16; PAIRS],
+            };
+        }
+        let m = self.machine;
+        let r = self.rules;
+        let j = self.asked();
+        let mut rows = [0u64; LINES_WORDS];
+        label_lines(m, r, &mut rows, j - 1);
+        let line = path_line(r, j);
+        let exchanged = read_operation(r, j) == Ok(Operation::SomePathNot);
+        let asked = AskedLine {
+            call: *self,
+            rows: &rows,
+            line,
+            exchanged,
         };
+        asked.show_line()
     }
-    let n = machine::nodes(m);
-    let trace = Trace {
-        solved: &solved,
-        next,
-        count: t as usize,
-        nodes: n,
-        start: s,
-    };
-    let found = trace.trail();
-    let positions = found.positions;
-    let length = found.length;
-    let states = named(numbers, positions, length);
-    let nodes = found.nodes;
-    Made {
-        nodes: nodes,
-        answer: Ok(Some(Shown {
-            length: length,
-            back: found.back,
-        })),
-        states: states,
+
+    // What is made for a list with space for so many pairs: none is longer than PAIRS, so that more room changes no answer.
+    pub fn make_within(&self, space: usize) -> Made
+        ensures { MadeFor self.now.machine.now self.now.rules.now self.now.line self.now.node (min space pairs_most) result.nodes result.states result.answer }
+    {
+        self.make(space.min(PAIRS))
     }
 }
 
-// The same with the successors of the nodes alone: their predecessors are found here, in a frame of its own, so that the stack has one
-// table at a time.
-fn show_with(
-    m: &[u16],
-    r: &[u16],
-    next: &[u64; TABLE_WORDS],
-    rows: &[u64],
-    p: PathLine,
-    exchanged: bool,
-    s: u16,
-) -> Made
-    requires { (Machine.machine_refusal m.now ≡ 0) × ((Rules.rule_refusal Rules.lent r.now ≡ 0) × (((s t : ℕ) → 1 ≤ s → s ≤ Machine.nodes m.now → s ≤ table_rows → rows_has next.now (s - 1) t ≡ (within 1 members_most t && (Machine.kripke m.now).edge s t)) × ((next back : List ℕ) → Ready m.now r.now next back → (PathReady m.now r.now next back rows.now (argument_of p) p.automaton) × ((1 ≤ s) × (s ≤ Machine.nodes m.now))))) }
-    ensures { ShowsLine m.now r.now rows.now (argument_of p) p.automaton exchanged s result.nodes result.states result.answer }
-{
-    let back = structure::predecessors(next, machine::nodes(m));
-    show(m, r, next, &back, rows, p, exchanged, s)
-}
-
-// The same with neither table. `make` calls it at two places, so that it keeps a frame of its own, and labelling runs without that.
-fn show_line(m: &[u16], r: &[u16], rows: &[u64], p: PathLine, exchanged: bool, s: u16) -> Made
-    requires { (Machine.machine_refusal m.now ≡ 0) × ((Rules.rule_refusal Rules.lent r.now ≡ 0) × ((next back : List ℕ) → Ready m.now r.now next back → (PathReady m.now r.now next back rows.now (argument_of p) p.automaton) × ((1 ≤ s) × (s ≤ Machine.nodes m.now)))) }
-    ensures { ShowsLine m.now r.now rows.now (argument_of p) p.automaton exchanged s result.nodes result.states result.answer }
-{
-    let next = structure::successors(m);
-    show_with(m, r, &next, rows, p, exchanged, s)
-}
-
-// Labels the lines above the asked one and makes the list for it, or says why there is none.
-fn make(m: &[u16], r: &[u16], line: u16, node: u16, room: usize) -> Made
-    ensures { MadeFor m.now r.now line node room result.nodes result.states result.answer }
-{
-    if let Err(refusal) = check_path(m, r, line, node, room) {
-        return Made {
-            nodes: [0u8; PAIRS],
-            answer: Err(refusal),
-            states: [0u16; PAIRS],
+impl AskedLine<'_> {
+    // The list for the line at the node, by the tables of the machine: no path where the solved line's row has not the node.
+    fn show(&self, next: &[u64; TABLE_WORDS], back: &[u64; TABLE_WORDS]) -> Made
+        requires { Ready self.now.call.machine.now self.now.call.rules.now next.now back.now }
+        ensures { ShowsLine self.now.call.machine.now self.now.call.rules.now self.now.rows.now (argument_of self.now.line) self.now.line.automaton self.now.exchanged self.now.call.node result.nodes result.states result.answer }
+    {
+        let m = self.call.machine;
+        let r = self.call.rules;
+        let s = self.call.node;
+        let a = position::by_position(r, self.line.automaton);
+        let sheets = Sheets {
+            machine: m,
+            rules: r,
+            next,
+            back,
         };
+        let solved = sheets.solve(self.rows, self.line.lines, a, self.exchanged);
+        let row = load(&solved.sets.reached, 0);
+        if !row.has(s) {
+            return Made {
+                nodes: [0u8; PAIRS],
+                answer: Ok(None),
+                states: [0u16; PAIRS],
+            };
+        }
+        let trace = Trace {
+            solved: &solved,
+            next,
+            count: a.count as usize,
+            nodes: machine::nodes(m),
+            start: s,
+        };
+        let found = trace.trail();
+        let shown = found.shown;
+        let nodes = found.nodes;
+        let mut states = found.positions;
+        name_states(&a.numbers, &mut states[..shown.length as usize]);
+        Made {
+            nodes,
+            answer: Ok(Some(shown)),
+            states,
+        }
     }
-    let j = asked(r, line);
-    let mut rows = [0u64; LINES_WORDS];
-    label_lines(m, r, &mut rows, j - 1);
-    let p = path_line(r, j);
-    if read_operation(r, j) == Ok(Operation::SomePathNot) {
-        return show_line(m, r, &rows, p, true, node);
+
+    // The same with the successors of the nodes alone: their predecessors are found here, in a frame of its own, so that the stack has one
+    // table at a time.
+    fn show_with(&self, next: &[u64; TABLE_WORDS]) -> Made
+        requires { Successors self.now.call.machine.now next.now }
+        ensures { ShowsLine self.now.call.machine.now self.now.call.rules.now self.now.rows.now (argument_of self.now.line) self.now.line.automaton self.now.exchanged self.now.call.node result.nodes result.states result.answer }
+    {
+        let back = structure::predecessors(next, machine::nodes(self.call.machine));
+        self.show(next, &back)
     }
-    show_line(m, r, &rows, p, false, node)
+
+    // The same with neither table. It keeps a frame of its own, and labelling runs without that.
+    #[inline(never)]
+    fn show_line(&self) -> Made
+        ensures { ShowsLine self.now.call.machine.now self.now.call.rules.now self.now.rows.now (argument_of self.now.line) self.now.line.automaton self.now.exchanged self.now.call.node result.nodes result.states result.answer }
+    {
+        let next = structure::successors(self.call.machine);
+        self.show_with(&next)
+    }
 }
 
-// Writes the nodes to the head of the list.
+// Writes the nodes to the head of the list. They are bytes, so that a made list takes less of the stack, and each is widened here; states are
+// words already, and are copied whole.
 fn write_nodes(list: &mut [u16], from: &[u8])
     requires { length from.now ≤ length list.old }
     ensures { list.new ≡ from.now ++ drop (length from.now) list.old }
@@ -231,13 +245,6 @@ pub fn length_of(answer: Result<Option<Shown>, Refusal>) -> u16
     }
 }
 
-// What is made for a list with space for so many pairs: none is longer than PAIRS, so that more room changes no answer.
-pub fn make_within(m: &[u16], r: &[u16], line: u16, node: u16, space: usize) -> Made
-    ensures { MadeFor m.now r.now line node (min space pairs_most) result.nodes result.states result.answer }
-{
-    make(m, r, line, node, space.min(PAIRS))
-}
-
 // The path call for code that has no slice of structs: nodes and states of the pairs go to two lent lists. Line 0 means the last line.
 pub fn path_lists(
     m: &[u16],
@@ -249,7 +256,13 @@ pub fn path_lists(
 ) -> Result<Option<Shown>, Refusal>
     ensures { PathAnswer m.now r.now line node nodes.old states.old nodes.new states.new result }
 {
-    let made = make_within(m, r, line, node, nodes.len().min(states.len()));
+    let call = Call {
+        machine: m,
+        rules: r,
+        line,
+        node,
+    };
+    let made = call.make_within(nodes.len().min(states.len()));
     let answer = made.answer;
     let count = length_of(answer) as usize;
     write_nodes(nodes, &made.nodes[..count]);

@@ -1,5 +1,7 @@
-// A truth row: a set of nodes as a value of two words. Union, complement and the like hand a new row back.
-ghost use Rattle.std.specs.Prelude.{◌≡◌, false, not, ◌&&◌, ◌||◌, ℕ, eqb};
+// A truth row: a set of nodes as a value of two words. Union, complement and the like hand a new row back. A row is two words and not one of 128
+// bits, since the C interface lends rows as words of 64 bits. A word that is not 0 has fewer zeros at an end than bits, so the remainder by
+// the bits is their number itself, and shows that it fits where it is narrowed.
+ghost use Rattle.std.specs.Prelude.{◌≡◌, ◌⊎◌, true, false, not, ◌&&◌, ◌||◌, ℕ, T, eqb};
 ghost use Rattle.sheets.specs.Words.{within, each};
 ghost use Rattle.truth.specs.Sizes.{members_most};
 ghost use Rattle.truth.specs.inner.Rows.{row_has, tally, Lowest, Highest, TakesLowest, TakesHighest};
@@ -133,6 +135,21 @@ impl Row {
             return Some(LOW_LAST - (u64::leading_zeros(self.low) % ROW_WORD_BITS) as u16);
         }
         None
+    }
+
+    // The nodes of the row that pass the test.
+    pub fn filter<F: Fn(u16) -> bool>(self, test: F) -> Row
+        requires { (s : ℕ) → T (row_has self s) → F.pre test s }
+        ensures passed { (s : ℕ) → T (row_has result s) → T (row_has self s) × F.post test s true }
+        ensures others { (s : ℕ) → T (row_has self s) → T (row_has result s) ⊎ F.post test s false }
+    {
+        let mut out = Row::empty();
+        for s in self.members() {
+            if test(s) {
+                out = out.with(s);
+            }
+        }
+        out
     }
 
     // The nodes of the row, from the lowest on.

@@ -1,15 +1,17 @@
 // The machine's structure in rows, read from the lent words: the nodes with an edge into a row, the nodes of a signal, the start nodes.
-ghost use Rattle.std.specs.Prelude.{◌≡◌, ◌↔◌, ◌⊎◌, Bool, false, ◌&&◌, ℕ, ◌-◌, ◌*◌, ◌≤◌, length, T, eqb, leb};
+ghost use Rattle.std.specs.Prelude.{◌≡◌, ◌↔◌, Bool, false, ◌&&◌, ℕ, ◌-◌, ◌*◌, ◌≤◌, length, T, eqb, leb};
 ghost use Rattle.sheets.specs.Words.{within};
-ghost use Rattle.sheets.specs.Machine as Machine;
+ghost use Rattle.sheets.specs.Machine.{nodes, kripke, signal_at, start_flag, machine_refusal};
 ghost use Rattle.sheets.specs.Format.{plain, edges_from, edge_words};
 ghost use Rattle.truth.specs.Sizes.{members_most, row_words, table_rows, table_words};
-ghost use Rattle.truth.specs.inner.Rows.{row_has, rows_has, leads_into, marks_into};
+ghost use Rattle.truth.specs.inner.Rows.{row_has, rows_has, leads_into};
+ghost use Rattle.truth.specs.inner.Marks.{marks_into};
 ghost use Rattle.truth.specs.inner.Targets.{links_end, TargetsTaken, Stopped, TailOf, chain_leads};
 ghost use Rattle.truth.specs.inner.Pairs.{Before};
 ghost use Rattle.truth.specs.inner.Links.{AddedBefore};
 ghost use Rattle.truth.specs.inner.Tested.{Tests};
 
+use crate::marks::Marks;
 use crate::rows::Row;
 use crate::sizes::{NODE_PLACES, TABLE_ROWS, TABLE_WORDS};
 use crate::tables::{add, line_row, load, store};
@@ -18,20 +20,28 @@ use sheets::walker::{Record, Walker};
 use sheets::{along, format, machine};
 
 // A tail that chains share: the nodes that the chain from record `at` on leads to. Every chain ends at record 0, from which on there is
-// nothing, so a machine with no shared tail has the tail from there: an Option would add a case to each walk and take none away. A sheet
-// and its tail are held together by comparison alone, by its `Machine`; here three functions take both. `TailOf` has a choice in it, which
-// a ghost field cannot hold as it stands.
+// nothing, so a machine with no shared tail has the tail from there: an Option would add a case to each walk and take none away.
 #[derive(Clone, Copy)]
 pub struct Tail {
     pub row: Row,
     pub at: u64,
 }
 
-// Links are words, so below this number.
+// A machine sheet, with a tail that its chains share. Any sheet has the tail from record 0 on; one from another record on is known of an
+// accepted sheet alone.
+#[derive(Clone, Copy)]
+pub struct Machine<'a> {
+    pub words: &'a [u16],
+    pub tail: Tail,
+    pub ghost shared: { TailOf words.now tail },
+}
+
+// Links are words, so below this number, which stands for no link yet: an Option would add a case to `done`, which compares two numbers at
+// each record.
 const LINKS_END: u64 = 65536;
 
-// What is gathered of a chain: the targets so far, the record at which the walk is left, and the link of the last record. The fields leave
-// no gap between them, which would be copied at each step.
+// What is gathered of a chain: the targets so far, the record at which the walk is left, and the link of the last record. 0 ends a chain, as in
+// the format, so a walk that is left nowhere else has it as `stop`. The fields leave no gap between them, which would be copied at each step.
 #[derive(Clone, Copy)]
 struct Targets {
     row: Row,
@@ -84,7 +94,7 @@ impl Gathers for Targets {
 // A walker along the chain of edges from record x on, of which `left` may be read.
 fn edges_walker<'a>(m: &'a [u16], x: u16, left: u16) -> Walker<'a>
     ensures words { result.words.now ≡ m.now }
-    ensures base { result.base ≡ edges_from plain (Machine.nodes m.now) }
+    ensures base { result.base ≡ edges_from plain (nodes m.now) }
     ensures width { result.width ≡ edge_words }
     ensures at { result.at ≡ x }
     ensures left { result.left ≡ left }
@@ -98,87 +108,123 @@ fn edges_walker<'a>(m: &'a [u16], x: u16, left: u16) -> Walker<'a>
     }
 }
 
-// The tail, if record x is one of e; a chain from elsewhere is read to its end.
-fn tail_for(tail: Tail, x: u16, e: u16) -> Tail
-    ensures { ((result.at ≡ 0) × ((t : ℕ) → row_has result.row t ≡ false)) ⊎ ((result ≡ tail) × (x ≤ e)) }
-{
-    if x <= e {
-        return tail;
-    }
-    no_tail()
-}
-
-// The nodes that the chain from record x on leads to.
-fn chain_row(m: &[u16], x: u16, tail: Tail) -> Row
-    requires { TailOf m.now tail }
-    ensures { (t : ℕ) → row_has result t ≡ (within 1 members_most t && chain_leads m.now x t) }
-{
-    if x as u64 == tail.at {
-        return tail.row;
-    }
-    let e = machine::edges(m);
-    let known = tail_for(tail, x, e);
-    let none = no_targets(known.at);
-    let found = along::along(edges_walker(m, x, e), none);
-    let row = found.row;
-    if found.link == found.stop {
-        let rest = known.row;
-        return row.union(rest);
-    }
-    row
-}
-
-// The nodes that the edges of node s lead to.
-fn successor_row(m: &[u16], s: u16, tail: Tail) -> Row
-    requires { TailOf m.now tail }
-    ensures { (t : ℕ) → row_has result t ≡ (within 1 members_most t && (Machine.kripke m.now).edge s t) }
-{
-    chain_row(m, machine::first_edge(m, s), tail)
-}
-
 // Where the chains of the nodes may have become one: the highest record that comes after the first ones of a chain, as many as there are
-// records for each node. It only saves work, and any record would do.
+// records for each node, or 0, at which chains end. It only saves work, and any record would do. The remainder makes 0 of what is no link.
 fn joint(m: &[u16]) -> u16 {
     let n = machine::nodes(m);
-    let e = machine::edges(m);
-    if n == 0 {
+    let Some(share) = machine::edges(m).checked_div(n) else {
         return 0;
-    }
-    let share = e / n;
+    };
     let none = no_targets(0);
-    let mut at: u64 = 0;
-    for s in 1..=n {
-        let first = machine::first_edge(m, s);
-        let found = along::along(edges_walker(m, first, share), none);
-        if found.link > at {
-            at = found.link;
+    let last = (1..=n)
+        .map(|s| along::along(edges_walker(m, machine::first_edge(m, s), share), none).link)
+        .max();
+    (last.unwrap_or(0) % LINKS_END) as u16
+}
+
+impl<'a> Machine<'a> {
+    // A sheet whose chains are read to their ends: any sheet, also one that is not accepted.
+    pub fn without_tail(words: &'a [u16]) -> Machine<'a>
+        ensures words { result.words.now ≡ words.now }
+        ensures end { result.tail.at ≡ 0 }
+    {
+        Machine {
+            words,
+            tail: no_tail(),
         }
     }
-    (at % LINKS_END) as u16
-}
 
-// A tail that chains of the machine share, if there is one.
-pub fn shared_tail(m: &[u16]) -> Tail
-    requires { Machine.machine_refusal m.now ≡ 0 }
-    ensures { TailOf m.now result }
-{
-    let at = joint(m);
-    if at > machine::edges(m) {
-        return no_tail();
+    // An accepted sheet, with a tail that its chains share, if there is one.
+    pub fn of(words: &'a [u16]) -> Machine<'a>
+        requires { machine_refusal words.now ≡ 0 }
+        ensures { result.words.now ≡ words.now }
+    {
+        let at = joint(words);
+        let alone = Machine::without_tail(words);
+        if at > machine::edges(words) {
+            return alone;
+        }
+        let row = alone.chain_row(at);
+        Machine {
+            words,
+            tail: Tail { row, at: at as u64 },
+        }
     }
-    let row = chain_row(m, at, no_tail());
-    Tail { row, at: at as u64 }
+
+    // The machine with its tail, if record x is one of e; a chain from elsewhere is read to its end.
+    fn for_chain(&self, x: u16, e: u16) -> Machine<'a>
+        ensures words { result.words.now ≡ self.now.words.now }
+        ensures same { x ≤ e → result.tail ≡ self.now.tail }
+        ensures inside { 1 ≤ result.tail.at → x ≤ e }
+    {
+        if x <= e {
+            return *self;
+        }
+        Machine::without_tail(self.words)
+    }
+
+    // The nodes that the chain from record x on leads to.
+    fn chain_row(&self, x: u16) -> Row
+        ensures { (t : ℕ) → row_has result t ≡ (within 1 members_most t && chain_leads self.now.words.now x t) }
+    {
+        if x as u64 == self.tail.at {
+            return self.tail.row;
+        }
+        let e = machine::edges(self.words);
+        let known = self.for_chain(x, e);
+        let none = no_targets(known.tail.at);
+        let found = along::along(edges_walker(self.words, x, e), none);
+        let row = found.row;
+        if found.link == found.stop {
+            let rest = known.tail.row;
+            return row.union(rest);
+        }
+        row
+    }
+
+    // The nodes that the edges of node s lead to.
+    fn successor_row(&self, s: u16) -> Row
+        ensures { (t : ℕ) → row_has result t ≡ (within 1 members_most t && (kripke self.now.words.now).edge s t) }
+    {
+        self.chain_row(machine::first_edge(self.words, s))
+    }
+
+    // Some edge of node s leads into the row.
+    pub fn leads_into(&self, s: u16, row: Row) -> bool
+        ensures { result ≡ leads_into self.now.words.now (row_has row) s }
+    {
+        self.successor_row(s).meets(row)
+    }
+
+    // The marks that the edges of node s lead to, where `of` has the mark of each node and `all` has at least these marks. No mark is read when
+    // all are found.
+    pub fn marks_among(&self, of: &[Option<u16>; NODE_PLACES], all: Row, s: u16) -> Row
+        requires { (e : ℕ) → T (marks_into self.now.words.now of.now s e) → T (row_has all e) }
+        ensures { (e : ℕ) → row_has result e ≡ marks_into self.now.words.now of.now s e }
+    {
+        let mut out = Row::empty();
+        let next = self.successor_row(s);
+        for t in next.members() {
+            if all.difference(out).is_empty() {
+                return out;
+            }
+            match of[t as usize] {
+                Some(e) => out = out.with(e),
+                None => {}
+            }
+        }
+        out
+    }
+
+    // The marks that the edges of node s lead to, of all that there are.
+    pub fn marks_into(&self, marks: &Marks, s: u16) -> Row
+        ensures { (e : ℕ) → row_has result e ≡ marks_into self.now.words.now marks.now.of s e }
+    {
+        self.marks_among(&marks.of, marks.all, s)
+    }
 }
 
-// Some edge of node s leads into the row.
-pub fn leads_into(m: &[u16], s: u16, row: Row, tail: Tail) -> bool
-    requires { TailOf m.now tail }
-    ensures { result ≡ leads_into m.now (row_has row) s }
-{
-    successor_row(m, s, tail).meets(row)
-}
-
-// The nodes of 1 to n that pass the test.
+// The nodes of 1 to n that pass the test. `Row::filter` begins with a row, and the first one, of all nodes, is made by this.
 fn nodes_where<F: Fn(u16) -> bool>(n: u16, test: F) -> Row
     requires { F.IsAlwaysCallable test }
     ensures { (p : ℕ → Bool) → Tests n F.Fn test p → (s : ℕ) → row_has result s ≡ (leb s n && (within 1 members_most s && p s)) }
@@ -201,44 +247,27 @@ pub fn node_row(n: u16) -> Row
 
 // The nodes where signal i is set.
 pub fn signal_row(m: &[u16], i: u16) -> Row
-    ensures { (s : ℕ) → row_has result s ≡ (leb s (Machine.nodes m.now) && (within 1 members_most s && Machine.signal_at m.now i s)) }
+    ensures { (s : ℕ) → row_has result s ≡ (leb s (nodes m.now) && (within 1 members_most s && signal_at m.now i s)) }
 {
     nodes_where(machine::nodes(m), |s| machine::signal_at(m, i, s))
 }
 
 // The start nodes.
 pub fn start_row(m: &[u16]) -> Row
-    ensures { (s : ℕ) → row_has result s ≡ (leb s (Machine.nodes m.now) && (within 1 members_most s && eqb (Machine.start_flag m.now s) 1)) }
+    ensures { (s : ℕ) → row_has result s ≡ (leb s (nodes m.now) && (within 1 members_most s && eqb (start_flag m.now s) 1)) }
 {
     nodes_where(machine::nodes(m), |s| machine::start_flag(m, s) == 1)
 }
 
-// The marks that the edges of node s lead to, where `mark` has the mark of each node, 0 for none, and `all` has at least these marks. No
-// mark is read when all are found.
-pub fn marks_into(m: &[u16], mark: &[u16; NODE_PLACES], all: Row, s: u16, tail: Tail) -> Row
-    requires covered { (e : ℕ) → T (marks_into m.now mark.now s e) → T (row_has all e) }
-    requires tailed { TailOf m.now tail }
-    ensures { (e : ℕ) → row_has result e ≡ marks_into m.now mark.now s e }
-{
-    let mut out = Row::empty();
-    let next = successor_row(m, s, tail);
-    for t in next.members() {
-        if all.difference(out).is_empty() {
-            return out;
-        }
-        out = out.with(mark[t as usize]);
-    }
-    out
-}
-
 // The successors of each node s, at row s - 1.
 pub fn successors(m: &[u16]) -> [u64; TABLE_WORDS]
-    ensures { (s t : ℕ) → 1 ≤ s → s ≤ Machine.nodes m.now → s ≤ table_rows → rows_has result (s - 1) t ≡ (within 1 members_most t && (Machine.kripke m.now).edge s t) }
+    ensures { (s t : ℕ) → 1 ≤ s → s ≤ nodes m.now → s ≤ table_rows → rows_has result (s - 1) t ≡ (within 1 members_most t && (kripke m.now).edge s t) }
 {
     let n = machine::nodes(m).min(TABLE_ROWS);
+    let alone = Machine::without_tail(m);
     let mut out = [0u64; TABLE_WORDS];
     for s in 0..n {
-        let row = successor_row(m, s + 1, no_tail());
+        let row = alone.successor_row(s + 1);
         store(&mut out, s as usize, row);
     }
     out

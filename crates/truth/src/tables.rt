@@ -1,6 +1,8 @@
-// Tables of rows in flat arrays and lent words, two words a row; and the rows of lines in the lent space, lines from 1.
-ghost use Rattle.std.specs.Prelude.{◌≡◌, ◌-◌, ◌+◌, ◌*◌, ◌≤◌, length, get_or, set};
-ghost use Rattle.truth.specs.Sizes.{row_words, low_at, high_at};
+// Tables of rows in flat arrays and lent words, two words a row; and the rows of lines in the lent space, lines from 1. The rows that C lends
+// are words, so a table that the crate keeps is of words too: one load and one store serve both kinds.
+ghost use Rattle.std.specs.Prelude.{◌≡◌, ◌-◌, ◌+◌, ◌*◌, ◌≤◌, length};
+ghost use Rattle.truth.specs.Sizes.{row_words};
+ghost use Rattle.truth.specs.inner.Rows.{HasRow, IsRow, with_row};
 ghost use Rattle.truth.specs.inner.Links.{Joined};
 
 use crate::rows::Row;
@@ -9,19 +11,16 @@ use crate::sizes::ROW_WORDS;
 // Row k of a table, rows from 0.
 pub fn load(rows: &[u64], k: usize) -> Row
     requires { row_words * (k + 1) ≤ length rows.now }
-    ensures { (result.low ≡ get_or rows.now (low_at k) 0) × (result.high ≡ get_or rows.now (high_at k) 0) }
+    ensures { IsRow rows.now k result }
 {
     let low = rows[ROW_WORDS * k];
     let high = rows[ROW_WORDS * k + 1];
-    Row {
-        low: low,
-        high: high,
-    }
+    Row { low, high }
 }
 
 pub fn store(rows: &mut [u64], k: usize, row: Row)
     requires { row_words * (k + 1) ≤ length rows.old }
-    ensures { rows.new ≡ set (set rows.old (low_at k) row.low) (high_at k) row.high }
+    ensures { rows.new ≡ with_row rows.old k row }
 {
     rows[ROW_WORDS * k] = row.low;
     rows[ROW_WORDS * k + 1] = row.high;
@@ -29,22 +28,22 @@ pub fn store(rows: &mut [u64], k: usize, row: Row)
 
 // The row of line j in the lent space.
 pub fn line_row(rows: &[u64], j: usize) -> Row
-    requires { (1 ≤ j) × (row_words * j ≤ length rows.now) }
-    ensures { (result.low ≡ get_or rows.now (low_at (j - 1)) 0) × (result.high ≡ get_or rows.now (high_at (j - 1)) 0) }
+    requires { HasRow rows.now j }
+    ensures { IsRow rows.now (j - 1) result }
 {
     load(rows, j - 1)
 }
 
 pub fn set_line_row(rows: &mut [u64], j: usize, row: Row)
-    requires { (1 ≤ j) × (row_words * j ≤ length rows.old) }
-    ensures { rows.new ≡ set (set rows.old (low_at (j - 1)) row.low) (high_at (j - 1)) row.high }
+    requires { HasRow rows.old j }
+    ensures { rows.new ≡ with_row rows.old (j - 1) row }
 {
     store(rows, j - 1, row);
 }
 
 // One member more in row j, rows from 1.
 pub fn add(rows: &mut [u64], j: usize, s: u16)
-    requires { (1 ≤ j) × (row_words * j ≤ length rows.old) }
+    requires { HasRow rows.old j }
     ensures { Joined (j - 1) s rows.old rows.new }
 {
     let row = line_row(rows, j);

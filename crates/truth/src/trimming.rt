@@ -1,10 +1,10 @@
 // The largest set of pairs each of which has a step into it: pairs without one are taken out, and then what had a step to them only.
-ghost use Rattle.std.specs.Prelude.{◌≡◌, ◌↔◌, ℕ, ◌+◌, ◌-◌, ◌<◌, ◌≤◌, false, List, length, T};
-ghost use Rattle.truth.specs.Sizes.{positions_most, members_most, cell, set_words};
+ghost use Rattle.std.specs.Prelude.{◌≡◌, ◌↔◌, ℕ, ◌+◌, ◌-◌, ◌<◌, ◌≤◌, false, List, T};
+ghost use Rattle.truth.specs.Sizes.{positions_most, members_most, cell};
 ghost use Rattle.truth.specs.inner.Rows.{row_has, rows_has};
 ghost use Rattle.truth.specs.inner.Pairs.{UpTo, Transposed, Before, NoRow, NoRows, Onward, Greatest};
-ghost use Rattle.truth.specs.inner.Links.{Into, Onto, Among};
-ghost use Rattle.truth.specs.inner.Trimmed.{Common, Stuck, Taken, OwingTo, Moved, Trimmed, Started};
+ghost use Rattle.truth.specs.inner.Links.{Among};
+ghost use Rattle.truth.specs.inner.Trimmed.{Meeting, Stuck, Taken, OwingTo, Moved, Trimmed, Started};
 
 use crate::product::Product;
 use crate::rows::Row;
@@ -32,32 +32,37 @@ impl Trimming {
     }
 }
 
+// A pair (p, s) and the rows go from `stuck` down to a single step: a struct of the three would be made anew for each node, since s changes
+// while the others stay.
 impl Product<'_> {
-    // Whether p may go at s to a position of `on` whose row meets `to`, the successors of s.
+    // Whether p may go at s to position k, whose row meets `to`, the successors of s.
+    fn step_into(&self, to: Row, p: usize, k: usize, s: u16, xs: &[u64; SET_WORDS]) -> bool
+        requires position { p < positions_most }
+        requires next { k < positions_most }
+        ensures { T result ↔ Meeting self.now.moves.now.allow xs.now (row_has to) p s k }
+    {
+        let may = load(&self.moves.allow, POSITIONS * p + k);
+        may.has(s) && to.meets(load(xs, k))
+    }
+
+    // Whether it may go so to a position of `on`.
     fn steps_into(&self, to: Row, on: Row, p: usize, s: u16, xs: &[u64; SET_WORDS]) -> bool
         requires position { p < positions_most }
         requires positions { (u : ℕ) → T (row_has on u) → u ≤ positions_most }
-        ensures { T result ↔ Among (row_has on) (λ k. T (rows_has self.now.allow.now (cell p k) s) × Common (row_has to) (rows_has xs.now k)) }
+        ensures { T result ↔ Among (row_has on) (Meeting self.now.moves.now.allow xs.now (row_has to) p s) }
     {
-        let allow = self.allow;
-        for u in on.members() {
-            let k = u as usize - 1;
-            let may = load(allow, POSITIONS * p + k);
-            if may.has(s) && to.meets(load(xs, k)) {
-                return true;
-            }
-        }
-        false
+        on.members()
+            .any(|u| self.step_into(to, p, u as usize - 1, s, xs))
     }
 
     // Whether a step from (p, s), where p may go to p2, leads into the rows: one to p2 is looked for first.
     fn steps_on(&self, p: usize, p2: usize, s: u16, xs: &[u64; SET_WORDS]) -> bool
-        requires position { p < self.now.count }
-        requires next { p2 < self.now.count }
+        requires position { p < self.now.moves.now.count }
+        requires next { p2 < self.now.moves.now.count }
         requires least { 1 ≤ s }
         requires most { s ≤ members_most }
-        requires allowed { T (rows_has self.now.allow.now (cell p p2) s) }
-        ensures { T result ↔ Onward self.now.allow.now self.now.next.now self.now.count (rows_has xs.now) p s }
+        requires allowed { T (rows_has self.now.moves.now.allow (cell p p2) s) }
+        ensures { T result ↔ Onward self.now.moves.now.allow self.now.next.now self.now.moves.now.count (rows_has xs.now) p s }
     {
         let next = self.next;
         let to = load(next, s as usize - 1);
@@ -65,35 +70,27 @@ impl Product<'_> {
         if to.meets(there) {
             return true;
         }
-        let onto = self.onto;
-        self.steps_into(to, load(onto, p), p, s, xs)
+        self.steps_into(to, load(&self.moves.onto, p), p, s, xs)
     }
 
     // The nodes of `look`, at which p may go to p2, from which no step from p leads into the rows.
     fn stuck(&self, p: usize, p2: usize, look: Row, xs: &[u64; SET_WORDS]) -> Row
-        requires position { p < self.now.count }
-        requires next { p2 < self.now.count }
-        requires allowed { (s : ℕ) → T (row_has look s) → T (rows_has self.now.allow.now (cell p p2) s) }
-        ensures { Stuck self.now.allow.now self.now.next.now self.now.count xs.now p (row_has look) (row_has result) }
+        requires position { p < self.now.moves.now.count }
+        requires next { p2 < self.now.moves.now.count }
+        requires allowed { (s : ℕ) → T (row_has look s) → T (rows_has self.now.moves.now.allow (cell p p2) s) }
+        ensures { Stuck self.now.moves.now.allow self.now.next.now self.now.moves.now.count xs.now p (row_has look) (row_has result) }
     {
-        let mut out = Row::empty();
-        for s in look.members() {
-            if !self.steps_on(p, p2, s, xs) {
-                out = out.with(s);
-            }
-        }
-        out
+        look.filter(|s| !self.steps_on(p, p2, s, xs))
     }
 
     // Takes out of row p what may go to p2 at a node of `pre` and has no step into what is kept.
     fn trim_row(&self, p: usize, p2: usize, pre: Row, pairs: &mut Trimming)
-        requires position { p < self.now.count }
-        requires next { p2 < self.now.count }
-        ensures moved { Moved self.now.allow.now self.now.next.now self.now.count pairs.old.kept pairs.old.gone pairs.new.kept pairs.new.gone }
-        ensures owing { OwingTo self.now.allow.now self.now.next.now self.now.count p2 (row_has pre) pairs.new.kept pairs.new.gone p }
+        requires position { p < self.now.moves.now.count }
+        requires next { p2 < self.now.moves.now.count }
+        ensures moved { Moved self.now.moves.now.allow self.now.next.now self.now.moves.now.count pairs.old.kept pairs.old.gone pairs.new.kept pairs.new.gone }
+        ensures owing { OwingTo self.now.moves.now.allow self.now.next.now self.now.moves.now.count p2 (row_has pre) pairs.new.kept pairs.new.gone p }
     {
-        let allow = self.allow;
-        let may = load(allow, POSITIONS * p + p2);
+        let may = load(&self.moves.allow, POSITIONS * p + p2);
         let row = load(&pairs.kept, p);
         let look = row.intersection(may).intersection(pre);
         if look.is_empty() {
@@ -105,10 +102,10 @@ impl Product<'_> {
 
     // So for each row that `from` names.
     fn trim_into(&self, p2: usize, from: Row, pre: Row, pairs: &mut Trimming)
-        requires next { p2 < self.now.count }
-        requires positions { (u : ℕ) → T (row_has from u) → u ≤ self.now.count }
-        ensures moved { Moved self.now.allow.now self.now.next.now self.now.count pairs.old.kept pairs.old.gone pairs.new.kept pairs.new.gone }
-        ensures owing { (u : ℕ) → T (row_has from u) → OwingTo self.now.allow.now self.now.next.now self.now.count p2 (row_has pre) pairs.new.kept pairs.new.gone (u - 1) }
+        requires next { p2 < self.now.moves.now.count }
+        requires positions { (u : ℕ) → T (row_has from u) → u ≤ self.now.moves.now.count }
+        ensures moved { Moved self.now.moves.now.allow self.now.next.now self.now.moves.now.count pairs.old.kept pairs.old.gone pairs.new.kept pairs.new.gone }
+        ensures owing { (u : ℕ) → T (row_has from u) → OwingTo self.now.moves.now.allow self.now.next.now self.now.moves.now.count p2 (row_has pre) pairs.new.kept pairs.new.gone (u - 1) }
     {
         for u in from.members() {
             self.trim_row(u as usize - 1, p2, pre, pairs);
@@ -117,8 +114,8 @@ impl Product<'_> {
 
     // Empties row p2 of what is gone, and takes out what had a step to its nodes only; tells whether there were any.
     fn trim_from(&self, p2: usize, pairs: &mut Trimming) -> bool
-        requires { p2 < self.now.count }
-        ensures trimmed { Trimmed self.now.allow.now self.now.next.now self.now.back.now self.now.count pairs.old.kept pairs.old.gone pairs.new.kept pairs.new.gone result }
+        requires { p2 < self.now.moves.now.count }
+        ensures trimmed { Trimmed self.now.moves.now.allow self.now.next.now self.now.back.now self.now.moves.now.count pairs.old.kept pairs.old.gone pairs.new.kept pairs.new.gone result }
         ensures none { result ≡ false → NoRow pairs.new.gone p2 }
     {
         let from = load(&pairs.gone, p2);
@@ -128,18 +125,17 @@ impl Product<'_> {
         store(&mut pairs.gone, p2, Row::empty());
         let back = self.back;
         let pre = together(back, from);
-        let into = self.into;
-        self.trim_into(p2, load(into, p2), pre, pairs);
+        self.trim_into(p2, load(&self.moves.into, p2), pre, pairs);
         true
     }
 
     // So for each row of what is gone; tells whether there was anything to do.
     fn trim_round(&self, pairs: &mut Trimming) -> bool
-        ensures trimmed { Trimmed self.now.allow.now self.now.next.now self.now.back.now self.now.count pairs.old.kept pairs.old.gone pairs.new.kept pairs.new.gone result }
-        ensures none { result ≡ false → NoRows self.now.count pairs.new.gone }
+        ensures trimmed { Trimmed self.now.moves.now.allow self.now.next.now self.now.back.now self.now.moves.now.count pairs.old.kept pairs.old.gone pairs.new.kept pairs.new.gone result }
+        ensures none { result ≡ false → NoRows self.now.moves.now.count pairs.new.gone }
     {
         let mut changed = false;
-        for k in 0..self.count {
+        for k in 0..self.moves.count {
             if self.trim_from(k, pairs) {
                 changed = true;
             }
@@ -149,11 +145,11 @@ impl Product<'_> {
 
     // For each row, what is before it.
     fn befores(&self, xs: &[u64; SET_WORDS]) -> [u64; SET_WORDS]
-        ensures { (k s : ℕ) → k < self.now.count → T (rows_has result k s) ↔ Before self.now.back.now (rows_has xs.now k) s }
+        ensures { (k s : ℕ) → k < self.now.moves.now.count → T (rows_has result k s) ↔ Before self.now.back.now (rows_has xs.now k) s }
     {
         let back = self.back;
         let mut out = [0u64; SET_WORDS];
-        for k in 0..self.count {
+        for k in 0..self.moves.count {
             let row = load(xs, k);
             let pre = together(back, row);
             store(&mut out, k, pre);
@@ -161,18 +157,17 @@ impl Product<'_> {
         out
     }
 
-    // The nodes at which p may go to a position of `on` whose row of the table has them. `steps_into` goes over the positions likewise, but
-    // asks at one node and stops where it finds a step: an iterator of the positions with their rows would be longer than the two loops.
+    // The nodes at which p may go to a position of `on` whose row of the table has them. `steps_into` asks at one node alone, and stops where
+    // it finds a step.
     fn goes_on(&self, table: &[u64; SET_WORDS], on: Row, p: usize) -> Row
         requires position { p < positions_most }
         requires positions { (u : ℕ) → T (row_has on u) → u ≤ positions_most }
-        ensures { (s : ℕ) → T (row_has result s) ↔ Among (row_has on) (λ k. T (rows_has self.now.allow.now (cell p k) s) × T (rows_has table.now k s)) }
+        ensures { (s : ℕ) → T (row_has result s) ↔ Among (row_has on) (λ k. T (rows_has self.now.moves.now.allow (cell p k) s) × T (rows_has table.now k s)) }
     {
-        let allow = self.allow;
         let mut out = Row::empty();
         for u in on.members() {
             let k = u as usize - 1;
-            let may = load(allow, POSITIONS * p + k);
+            let may = load(&self.moves.allow, POSITIONS * p + k);
             let there = load(table, k);
             out = out.union(may.intersection(there));
         }
@@ -181,11 +176,10 @@ impl Product<'_> {
 
     // Takes out of row p what has nothing ahead.
     fn trim_first_row(&self, table: &[u64; SET_WORDS], p: usize, pairs: &mut Trimming)
-        requires { p < self.now.count }
-        ensures { (start : List ℕ) → ((k s : ℕ) → k < self.now.count → T (rows_has table.now k s) ↔ Before self.now.back.now (rows_has start k) s) → Started self.now.allow.now self.now.back.now self.now.count p start pairs.old.kept pairs.old.gone → Started self.now.allow.now self.now.back.now self.now.count (p + 1) start pairs.new.kept pairs.new.gone }
+        requires { p < self.now.moves.now.count }
+        ensures { (start : List ℕ) → ((k s : ℕ) → k < self.now.moves.now.count → T (rows_has table.now k s) ↔ Before self.now.back.now (rows_has start k) s) → Started self.now.moves.now.allow self.now.back.now self.now.moves.now.count p start pairs.old.kept pairs.old.gone → Started self.now.moves.now.allow self.now.back.now self.now.moves.now.count (p + 1) start pairs.new.kept pairs.new.gone }
     {
-        let onto = self.onto;
-        let on = self.goes_on(table, load(onto, p), p);
+        let on = self.goes_on(table, load(&self.moves.onto, p), p);
         let row = load(&pairs.kept, p);
         let lost = row.difference(on);
         pairs.take_out(p, lost);
@@ -194,23 +188,24 @@ impl Product<'_> {
     // Takes out of each row what has nothing ahead in the first rows.
     fn trim_first(&self, pairs: &mut Trimming)
         requires { (p : ℕ) → NoRow pairs.old.gone p }
-        ensures { Started self.now.allow.now self.now.back.now self.now.count self.now.count pairs.old.kept pairs.new.kept pairs.new.gone }
+        ensures { Started self.now.moves.now.allow self.now.back.now self.now.moves.now.count self.now.moves.now.count pairs.old.kept pairs.new.kept pairs.new.gone }
     {
         let table = self.befores(&pairs.kept);
-        for p in 0..self.count {
+        for p in 0..self.moves.count {
             self.trim_first_row(&table, p, pairs);
         }
     }
 
     // The largest set of the pairs of `xs` each of which has a step into it.
     pub fn trim(&self, xs: [u64; SET_WORDS]) -> [u64; SET_WORDS]
-        ensures { (n : ℕ) → Transposed n self.now.next.now self.now.back.now → UpTo n self.now.count xs → Greatest self.now.allow.now self.now.next.now self.now.count xs result }
+        ensures { (n : ℕ) → Transposed n self.now.next.now self.now.back.now → UpTo n self.now.moves.now.count xs → Greatest self.now.moves.now.allow self.now.next.now self.now.moves.now.count xs result }
     {
         let mut pairs = Trimming {
             kept: xs,
             gone: [0; SET_WORDS],
         };
         self.trim_first(&mut pairs);
+        // Rounds follow each other until one finds nothing to do: there is no index to count.
         while self.trim_round(&mut pairs) {}
         pairs.kept
     }

@@ -77,6 +77,12 @@ pub record HoldsLines (space : List ℕ) (ls : List Entry) : Type 0 where
   pub size : length space ≡ written_space
   pub stands : take (line_words * length ls) space ≡ written_words ls
 
+-- the written lines are those of a list over a signals, each of which refers only to lines above it
+pub record Lists (a : ℕ) (w : Written) (ls : List Entry) : Type 0 where
+  pub down : Downward a ls
+  pub holds : HoldsLines w.words ls
+  pub count : length ls ≡ w.count
+
 -- below n lines, whatever they are, the lines `more` are written
 pub record Adds (before after : List ℕ) (n : ℕ) (more : List Entry) : Type 0 where
   pub size : length after ≡ written_space

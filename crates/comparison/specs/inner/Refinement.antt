@@ -1,5 +1,7 @@
 -- A refinement of the nodes of two machines: blocks, each with a written line that is true at exactly its nodes.
 use Rattle.std.specs.Prelude.{◌≡◌, ◌≢◌, ℕ, ◌+◌, ◌≤◌, ◌<◌, List, Bool, not, ◌&&◌, length}
+use Rattle.truth.specs.inner.Rows.{rows_has}
+use Rattle.comparison.specs.inner.Sizes.{block_words}
 use Rattle.comparison.specs.inner.Lines.{Entry, Downward}
 use Rattle.comparison.specs.inner.Blocks.{Exact, Members, Covers, Disjoint, Inhabited}
 
@@ -26,6 +28,11 @@ pub record Parted (count c : ℕ) (x : ℕ → Bool) (mem mem' : Members) : Type
   pub here : (s : ℕ) → mem' c s ≡ (mem c s && x s)
   pub added : (s : ℕ) → mem' count s ≡ (mem c s && not (x s))
   pub others : (d s : ℕ) → d < count → d ≢ c → mem' d s ≡ mem d s
+
+-- the rows of a table are parted so
+pub record PartedRows (count c : ℕ) (x : ℕ → Bool) (before after : List ℕ) : Type 0 where
+  pub size : length after ≡ block_words
+  pub parted : Parted count c x (rows_has before) (rows_has after)
 
 -- their lines, below n lines
 pub record Lined (count c n : ℕ) (line line' : ℕ → ℕ) : Type 0 where

@@ -19,7 +19,3 @@ block_places = table_rows
 
 abbrev pub block_words : ℕ
 block_words = table_words
-
--- a table with a place for each number of a node
-abbrev pub node_places : ℕ
-node_places = 256

@@ -16,8 +16,8 @@ pub record Staged (M₁ M₂ : List ℕ) (spare : ℕ) (st : Partition) : Type 0
   pub accepted₁ : machine_refusal M₁ ≡ 0
   pub accepted₂ : machine_refusal M₂ ≡ 0
   pub bounded : Bounded M₁ M₂
-  pub size₁ : length st.first ≡ block_words
-  pub size₂ : length st.second ≡ block_words
+  pub size₁ : length st.rows.first ≡ block_words
+  pub size₂ : length st.rows.second ≡ block_words
   pub size_line : length st.line ≡ block_places
   pub ls : List Entry
   pub number : length ls ≡ st.lines.count
@@ -84,7 +84,7 @@ pub record Partitioned (M₁ M₂ : List ℕ) (p : Partition) : Type 0 where
   pub ls : List Entry
   pub number : length ls ≡ p.lines.count
   pub stands : take (line_words * p.lines.count) p.lines.words ≡ written_words ls
-  pub refinement : Refinement (signals M₁) M₁ M₂ ls p.count (λ c. get_or p.line c 0) (rows_has p.first) (rows_has p.second)
+  pub refinement : Refinement (signals M₁) M₁ M₂ ls p.count (λ c. get_or p.line c 0) (rows_has p.rows.first) (rows_has p.rows.second)
   pub short : p.lines.count + 5 ≤ lines_written (signals M₁) p.count
-  pub signals-done : SignalsDone M₁ M₂ p.count (rows_has p.first) (rows_has p.second)
-  pub nexts-done : NextsDone M₁ M₂ p.count (rows_has p.first) (rows_has p.second)
+  pub signals-done : SignalsDone M₁ M₂ p.count (rows_has p.rows.first) (rows_has p.rows.second)
+  pub nexts-done : NextsDone M₁ M₂ p.count (rows_has p.rows.first) (rows_has p.rows.second)

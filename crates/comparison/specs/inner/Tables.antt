@@ -5,34 +5,30 @@ use Rattle.truth.specs.inner.Rows.{rows_has}
 use Rattle.comparison.specs.inner.Sizes.{written_space, written_most, block_places, block_words}
 use Rattle.comparison.specs.inner.Lines.{split, Adds}
 use Rattle.comparison.specs.inner.Blocks.{Members, Meets, Unsplit, Split}
-use Rattle.comparison.specs.inner.Refinement.{Parted, Lined}
+use Rattle.comparison.specs.inner.Refinement.{PartedRows, Lined}
 use Rattle.comparison.specs.declared.writing.Written.{Written}
 use Rattle.comparison.specs.declared.blocks.Partition.{Partition}
 
 abbrev pub first_of : Partition → Members
-first_of st = rows_has st.first
+first_of st = rows_has st.rows.first
 
 abbrev pub second_of : Partition → Members
-second_of st = rows_has st.second
+second_of st = rows_has st.rows.second
 
 abbrev pub line_of : Partition → ℕ → ℕ
 line_of st c = get_or st.line c 0
 
 -- with other written lines
-abbrev pub written : Partition → Written → Partition
-written st lines = record {
-  first = st.first;
-  second = st.second;
+abbrev pub written : (st : Partition) → Written → st.count ≤ block_places → Partition
+written st lines few = record {
+  rows = st.rows;
   line = st.line;
   count = st.count;
   lines = lines;
+  few = few;
 }
 
 -- ---- a split
-
-pub record PartedRows (count c : ℕ) (x : ℕ → Bool) (before after : List ℕ) : Type 0 where
-  pub size : length after ≡ block_words
-  pub parted : Parted count c x (rows_has before) (rows_has after)
 
 pub record LinedBlocks (count c n : ℕ) (before after : List ℕ) : Type 0 where
   pub size : length after ≡ block_places
@@ -43,15 +39,15 @@ pub record Room (st : Partition) (c : ℕ) : Type 0 where
   pub block : c < st.count
   pub count : st.count < nodes_most
   pub lines : st.lines.count + 6 ≤ written_most
-  pub first : length st.first ≡ block_words
-  pub second : length st.second ≡ block_words
+  pub first : length st.rows.first ≡ block_words
+  pub second : length st.rows.second ≡ block_words
   pub line : length st.line ≡ block_places
   pub words : length st.lines.words ≡ written_space
 
 -- block c was split by the sets, where line p is true
 pub record SplitBlock (st st' : Partition) (c p : ℕ) (x₁ x₂ : ℕ → Bool) : Type 0 where
-  pub first : PartedRows st.count c x₁ st.first st'.first
-  pub second : PartedRows st.count c x₂ st.second st'.second
+  pub first : PartedRows st.count c x₁ st.rows.first st'.rows.first
+  pub second : PartedRows st.count c x₂ st.rows.second st'.rows.second
   pub line : LinedBlocks st.count c st.lines.count st.line st'.line
   pub words : Adds st.lines.words st'.lines.words st.lines.count (split st.lines.count (line_of st c) p)
   pub count : st'.count ≡ st.count + 1

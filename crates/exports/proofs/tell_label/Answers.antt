@@ -6,8 +6,8 @@ use Rattle.exports.proofs.tell_label.Goals as goal
 
 pub returns-in-Ok : goal.returns-in-Ok
 unfolding label_numbers
-returns-in-Ok c = rw (flag _) (sym (ap label_numbers c.in-Ok.is))
+returns-in-Ok c = rw (c.from.ensures, flag _) (sym (ap label_numbers c.in-Ok.is))
 
 pub returns-in-Err : goal.returns-in-Err
 unfolding label_numbers
-returns-in-Err c = rw (c.number.ensures, c.sheet.ensures) (sym (ap label_numbers c.in-Err.is))
+returns-in-Err c = rw (c.tell_refusal.ensures.number, c.tell_refusal.ensures.sheet) (sym (ap label_numbers c.in-Err.is))

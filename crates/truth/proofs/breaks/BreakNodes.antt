@@ -1,7 +1,7 @@
--- The first start node outside a set, found by a loop over the nodes; and what it is where the set is the last row of a labelling: none
+-- The first start node outside a set, found by a search through the nodes; and what it is where the set is the last row of a labelling: none
 -- where the machine keeps the rule, otherwise a start node where the last line is not true.
 use mathlib.Core.Path.{◌≡◌, sym, ap, subst, ◌∙◌}
-use mathlib.Core.Logic.{◌↔◌, ⊎_elim, ◌≢◌}
+use mathlib.Core.Logic.{◌↔◌}
 use Prim.Native.Nat.{ℕ, ◌+◌, ◌-◌, ◌*◌, ◌≤◌, ◌<◌}
 use native.Mathlib.Omega.{arith}
 use mathlib.Core.List.{List}
@@ -11,14 +11,16 @@ use lib.ListN.{length, get_or}
 use borrow.Author.Tests.{eq-eqb}
 use Rattle.truth.specs.Sizes.{row_words}
 use Rattle.sheets.specs.Words.{within}
-use Rattle.std.specs.Prelude.{Option, Some, None, Result, Ok, Err}
+use Rattle.std.specs.Prelude.{Option, Some, None, Result, Ok, Err, MatchOption}
+use Rattle.std.specs.List.{range_with_len, AllWithin, HoldsAt}
+use Rattle.std.proofs.lemmas.List.FromFn.{length-range_with_len, get_or-range_with_len}
 use Rattle.sheets.specs.Questions as Questions
 use Rattle.sheets.specs.Questions.{first_no}
 use Rattle.sheets.specs.declared.refusal.Refusal.{Refusal}
 use Rattle.sheets.specs.Machine.{nodes, start_flag, kripke}
 use Rattle.sheets.specs.Rules.{lent, lines}
 use Rattle.sheets.proofs.Tests.{and_right, and_both, passed}
-use Rattle.sheets.proofs.Search.{le-or-gt, within_in}
+use Rattle.sheets.proofs.Search.{within_in}
 use Rattle.sheets.proofs.AcceptedMachine.{start-node, nodes-sized}
 use Rattle.sheets.proofs.AcceptedRule.{some-line}
 use Rattle.truth.specs.Truth.{TrueAt}
@@ -32,25 +34,23 @@ use Rattle.truth.proofs.tables.RowBits.{row-bit}
 use Rattle.truth.proofs.labelling.LabelTable.{machine-accepted, rules-accepted, space-enough}
 use Rattle.truth.proofs.labelling.StartRows.{keeps-last}
 
--- ---- the loop
+-- ---- the search
 
 module _ (M : List ℕ) (p : ℕ → Bool) where
-  -- the start nodes before s pass
-  abbrev pub PassedTo : ℕ → Type 0
-  PassedTo s = (i : ℕ) → i < s → T ((kripke M).start i) → T (p i)
+  -- node s is a start node that does not pass; if it is a start node, it passes
+  abbrev pub Outside : ℕ → Type 0
+  Outside s = (start_flag M s ≡ 1) × (p s ≡ false)
 
-  pub passed_none : PassedTo 1
-  passed_none i h t = absurd (omega (arith, (start-node M i t).0))
+  abbrev pub Passes : ℕ → Type 0
+  Passes s = start_flag M s ≡ 1 → p s ≡ true
 
-  pub passed-in : (s : ℕ) → PassedTo s → p s ≡ true → PassedTo (s + 1)
-  passed-in s h e i l t = ⊎_elim (λ le. let z : i ≡ s = omega arith in rw (z, e) tt) (λ lt. h i lt t) (le-or-gt s i)
+  -- the numbers of the nodes
+  abbrev numbers : List ℕ
+  numbers = range_with_len 1 (nodes M)
 
-  pub passed-other : (s : ℕ) → PassedTo s → start_flag M s ≢ 1 → PassedTo (s + 1)
+  flagged : (s : ℕ) → T ((kripke M).start s) → start_flag M s ≡ 1
   unfolding kripke
-  passed-other s h n i l t =
-      ⊎_elim
-      (λ le. let z : i ≡ s = omega arith in
-      absurd (n (eqb→eq (start_flag M s) 1 (rw z at (and_right (within 1 (nodes M) i) (eqb (start_flag M i) 1) t))))) (λ lt. h i lt t) (le-or-gt s i)
+  flagged s t = eqb→eq (start_flag M s) 1 (and_right (within 1 (nodes M) s) (eqb (start_flag M s) 1) t)
 
   starts : (s : ℕ) → 1 ≤ s → s ≤ nodes M → start_flag M s ≡ 1 → T ((kripke M).start s)
   unfolding kripke
@@ -58,12 +58,31 @@ module _ (M : List ℕ) (p : ℕ → Bool) where
       let yes : T (eqb (start_flag M s) 1) = subst T (sym (eq-eqb (start_flag M s) 1 flag)) tt in
       and_both (within 1 (nodes M) s) (eqb (start_flag M s) 1) (within_in 1 (nodes M) s lo hi) yes
 
-  pub outside-found : (s : ℕ) → PassedTo s → 1 ≤ s → s ≤ nodes M → start_flag M s ≡ 1 → p s ≡ false → OutsideAt M p s
-  outside-found s h lo hi flag e = record { start = starts s lo hi flag; outside = e; earlier = h }
+  -- if the first k nodes pass that are start nodes, so does each of the numbers up to k
+  passed-to : (k : ℕ) → k ≤ nodes M → AllWithin Passes numbers 0 k → (s : ℕ) → s ≤ k → T ((kripke M).start s) → T (p s)
+  passed-to k most all s h t =
+      let l = start-node M s t in
+      let e : 1 + (s - 1) ≡ s = omega arith in
+      let at = get_or-range_with_len 1 (nodes M) (s - 1) 0 (omega arith) ∙ e in
+      subst T (sym (rw at at (all (s - 1) 0 (omega arith) (omega arith)) (flagged s t))) tt
 
-  pub outside-none : PassedTo (nodes M + 1) → StartsIn M p
+  pub first-outside : (o : Option ℕ)
+      → MatchOption o (AllWithin Passes numbers 0 (length numbers)) (λ s. Outside s × (i : ℕ) × (i < length numbers) × HoldsAt (λ y. y ≡ s) numbers i × AllWithin Passes numbers 0 i)
+      → FirstOutside M p o
   unfolding StartsIn
-  outside-none h s t = h s (omega (arith, (start-node M s t).1)) t
+  first-outside None all =
+      let size = length-range_with_len 1 (nodes M) in
+      λ s t. passed-to (nodes M) (omega arith) (rw size at all) s (start-node M s t).1 t
+  first-outside (Some s) found =
+      let i = found.1 in
+      let size = length-range_with_len 1 (nodes M) in
+      let l : i < nodes M = omega (arith, found.2, size) in
+      let e : s ≡ 1 + i = sym (found.3 0) ∙ get_or-range_with_len 1 (nodes M) i 0 l in
+      record {
+        start = starts s (omega arith) (omega arith) found.0.0;
+        outside = found.0.1;
+        earlier = λ t h. passed-to i (omega arith) found.4 t (omega arith);
+      }
 
 -- ---- the last row of a labelling that nothing refuses
 

@@ -1,5 +1,5 @@
 -- Turns of a growing set of pairs after each other: none, one, more; where the first turn starts, and that where nothing is new the set is the least.
-use mathlib.Core.Path.{◌≡◌, refl, ◌∙◌}
+use mathlib.Core.Path.{◌≡◌, ◌∙◌}
 use mathlib.Core.Logic.{inl, inr, ⊎_elim}
 use Prim.Native.Nat.{ℕ, ◌+◌, ◌≤◌, ◌<◌}
 use native.Mathlib.Omega.{arith}
@@ -14,16 +14,6 @@ use Rattle.truth.proofs.rows.RowLaws.{one_passes}
 use Rattle.truth.proofs.growth.GrowthTurn.{turn-fewer, turn-grows}
 
 module _ {allow back : List ℕ} {t : ℕ} where
-  pub turns-none : {time : ℕ} {ys new times : List ℕ} → Turns allow back t time time ys new times ys new times
-  turns-none = record {
-    ys-size = refl;
-    new-size = refl;
-    times-size = refl;
-    later = omega arith;
-    fewer = omega arith;
-    grows = λ n next xs k u g. g;
-  }
-
   pub turns_more : {time time' time'' : ℕ} {ys new times ys' new' times' ys'' new'' times'' : List ℕ}
       → Turns allow back t time time' ys new times ys' new' times' → Turns allow back t time' time'' ys' new' times' ys'' new'' times''
       → Turns allow back t time time'' ys new times ys'' new'' times''

@@ -62,7 +62,3 @@ module _ (E : ℕ → Bool) (a b p time : ℕ) (ys new times : List ℕ) (x-is :
 
       unchanged : (y : Bool) (q s : ℕ) → y ≡ (y || (eqb q p && held a b s))
       unchanged y q s = rw (gone s, and-false (eqb q p), or-false y)
-
--- no time is written where none is kept
-pub no-time-put : {f : ℕ → Bool} {p time : ℕ} {times : List ℕ} → (Timed times → ⊥) → TimePut f p time times times
-no-time-put none = record { size = refl; timed = λ h s t. absurd (none h); rest = λ q s lo hi n. refl }

@@ -26,14 +26,6 @@ use Rattle.truth.proofs.Recursion.{truth-recursion}
 use Rattle.truth.proofs.tables.TableLaws.{stored-word, stored_here, stored_other, stored-length}
 use Rattle.truth.proofs.tables.RowBits.{row-bit}
 
-pub written_none : {M R before : List ℕ} → RowsTo M R 0 before before
-written_none = record {
-  size = refl;
-  truth = λ i s lo hi. absurd (omega arith);
-  clear = λ i s lo hi. absurd (omega arith);
-  rest = λ i h. refl;
-}
-
 module _ (M R : List ℕ) (machine : machine_refusal M ≡ 0) (rules : rule_refusal lent R ≡ 0) where
   -- a node of the machine, and itself
   abbrev Same : ℕ → ℕ → Type 0

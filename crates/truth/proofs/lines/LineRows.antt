@@ -5,7 +5,7 @@ use mathlib.Core.Logic.{◌↔◌}
 use Prim.Native.Nat.{ℕ, ◌-◌, ◌*◌, ◌≤◌, ◌<◌}
 use native.Mathlib.Omega.{arith}
 use mathlib.Core.List.{List}
-use mathlib.Core.Bool.{Bool, true, false, not, ◌&&◌, ◌||◌, and_assoc}
+use mathlib.Core.Bool.{Bool, true, false, not, ◌&&◌, ◌||◌}
 use lib.ListN.{length}
 use lib.Dec.{T, not_T, leb, leb→le, le→leb}
 use Rattle.sheets.specs.Format.{signals_most, variables_most}
@@ -31,11 +31,6 @@ use Rattle.truth.specs.inner.OneLine.{LineReady, LineRow, PathReady, PathRow}
 use Rattle.truth.proofs.NamedPaths.{path-by-position, path-arguments}
 use Rattle.truth.proofs.tables.RowBits.{row-bit}
 use Rattle.truth.proofs.lines.DecodedKinds.{meant, line-meant, line-carries, none-malformed, refers}
-
--- of the nodes 1 to n, those that pass a test
-pub nodes-passing : (n : ℕ) {all : ℕ → Bool} → ((s : ℕ) → all s ≡ (leb s n && within 1 members_most s)) → {row : ℕ → Bool} (f g : ℕ → Bool)
-    → ((s : ℕ) → row s ≡ (all s && f s)) → ((s : ℕ) → f s ≡ g s) → (s : ℕ) → row s ≡ (leb s n && (within 1 members_most s && g s))
-nodes-passing n {all} all_is {row} f g is same s = rw (is s, all_is s, same s) (and_assoc (leb s n) (within 1 members_most s) (g s))
 
 -- a path line, with accepting and non-accepting states exchanged or not
 abbrev path_line : Bool → PathLine → Line

@@ -30,12 +30,12 @@ use Rattle.truth.specs.Sizes.{row_words, lines_words}
 use Rattle.truth.specs.Truth.{TrueAt}
 use Rattle.truth.specs.Labelling.{RowsTo}
 use Rattle.truth.specs.inner.Product.{argument, argument_of}
-use Rattle.truth.specs.inner.OneLine.{Ready, PathReady, Holds}
+use Rattle.truth.specs.inner.OneLine.{Holds}
 use Rattle.truth.specs.inner.Trails.{placed}
 use Rattle.truth.specs.Path.{asked, q18, q19, path_questions}
 use Rattle.truth.specs.PathAnswers.{Answer}
 use Rattle.truth.specs.inner.Made.{MadePath, MadeFor}
-use Rattle.truth.specs.inner.Shows.{ShowsLine}
+use Rattle.truth.specs.inner.Shows.{Askable, ShowsLine}
 use Rattle.sheets.specs.CheckAnswers.{Answered}
 use Rattle.sheets.proofs.CheckAnswers.{numbered}
 use Rattle.truth.proofs.lines.DecodedKinds.{carried}
@@ -120,31 +120,24 @@ module _ (M R : List ℕ) (j s room : ℕ) where
             rw ex
             (holds-true M R machine-accepted rules-accepted k line-in.0 line-in.1 exchanged kind before rows written (argument_of p) same s node_in.0 node_in.1)
 
-        pub show-ready : length rows ≡ lines_words
-            → (machine_refusal M ≡ 0)
-            × ((rule_refusal lent R ≡ 0) × ((next back : List ℕ) → Ready M R next back → PathReady M R next back rows (argument_of p) p.automaton × ((1 ≤ s) × (s ≤ nodes M))))
-        show-ready size =
+        pub askable : length rows ≡ lines_words → Askable M R rows (argument_of p) p.automaton s
+        askable size =
             let named = positioned-named lent R rules-accepted (line_word lent R k operand_place) refers.0.0 refers.0.1 in
             let fit = rows_fit R rules-accepted in
-            let in_lines = line-in.1 in (
-              machine-accepted,
-              (
-                rules-accepted,
-                λ next back ready. (
-                  record {
-                    ready = ready;
-                    from = rw ex refers.0.0;
-                    to = rw ex refers.0.1;
-                    arguments = λ i l.
-                        let v : i < (automaton R (line_word lent R k operand_place)).variables = rw named.variables (rw ex at l) in
-                        let a = refers.1 i v in
-                        let b : (1 ≤ argument R k i) × (row_words * argument R k i ≤ length rows) = (a.0, omega (arith, a.1)) in
-                        subst (λ (n : ℕ). (1 ≤ n) × (row_words * n ≤ length rows)) (sym (same i v)) b;
-                  },
-                  node_in,
-                ),
-              ),
-            )
+            let in_lines = line-in.1 in
+            record {
+              machine = machine-accepted;
+              rules = rules-accepted;
+              from = rw ex refers.0.0;
+              to = rw ex refers.0.1;
+              arguments = λ i l.
+                  let v : i < (automaton R (line_word lent R k operand_place)).variables = rw named.variables (rw ex at l) in
+                  let a = refers.1 i v in
+                  let b : (1 ≤ argument R k i) × (row_words * argument R k i ≤ length rows) = (a.0, omega (arith, a.1)) in
+                  subst (λ (n : ℕ). (1 ≤ n) × (row_words * n ≤ length rows)) (sym (same i v)) b;
+              low = node_in.0;
+              high = node_in.1;
+            }
 
         pub shown : (list names : List ℕ) (answer : Answer) → ShowsLine M R rows (argument_of p) p.automaton exchanged s list names answer → MadeFor M R j s room list names answer
         unfolding ShowsLine MadePath

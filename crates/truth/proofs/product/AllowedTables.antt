@@ -1,7 +1,7 @@
 -- The table of where an automaton may go: one row more by the mask of its two positions, and all of them together.
-use mathlib.Core.Path.{◌≡◌, refl, sym, subst, ◌∙◌}
+use mathlib.Core.Path.{◌≡◌, refl, sym, ◌∙◌}
 use mathlib.Core.Logic.{◌↔◌, ⊎_elim}
-use Prim.Native.Nat.{ℕ, ◌+◌, ◌*◌, ◌/◌, ◌%◌, ◌^◌, ◌≤◌, ◌<◌}
+use Prim.Native.Nat.{ℕ, ◌+◌, ◌%◌, ◌^◌, ◌≤◌, ◌<◌}
 use native.Mathlib.Omega.{arith}
 use mathlib.Core.List.{List}
 use mathlib.Core.Bool.{Bool, true, not, ◌&&◌}
@@ -84,45 +84,28 @@ pub record Built (masks table : List ℕ) (v t i : ℕ) (out : List ℕ) : Type 
   pub rest : (n : ℕ) → i ≤ n → NoRow out n
 
 module _ (masks table : List ℕ) (v t : ℕ) where
-  pub built-none : (out : List ℕ) → length out ≡ table_words → ((n : ℕ) → NoRow out n) → Built masks table v t 0 out
-  built-none out size none =
-      record { size = size; row = λ n s l m. absurd (omega arith); inside = λ n s x. absurd (none n s x); rest = λ n l. none n }
+  -- the row from position p to position k too
+  pub built-more : (p k : ℕ) (now : List ℕ) → Built masks table v t (cell p k) now → (after into onto into' onto' : List ℕ) → ((w : ℕ) → 2 ^ v ≤ w → NoRow table w)
+      → MaskSet table (get_or masks (cell p k) 0) p k now into onto after into' onto' → Built masks table v t (cell p (k + 1)) after
+  built-more p k now b after into onto into' onto' empty one = record {
+    size = one.size ∙ b.size;
+    row = λ n s l h. ⊎_elim (λ lt. one.other n s (λ e. omega arith) ∙ b.row n s lt h) (λ e. rw e (drawn-is table v empty (get_or masks i 0) s _ (one.here s))) (below_split i n (omega arith));
+    inside = λ n s x. ⊎_elim (λ e. set-row n s (eqb→eq n i e) x) (λ d. b.inside n s (rw (one.other n s (λ e. T_not (eqb n i) d (rw e (eqb_refl i)))) at x)) (test (eqb n i));
+    rest = λ n l s x. b.rest n (omega arith) s (rw (one.other n s (λ e. omega arith)) at x);
+  }
+    where
+      i : ℕ
+      i = cell p k
 
-  module _ (i : ℕ) (now : List ℕ) (b : Built masks table v t i now) where
-    -- of a position from t on
-    pub built-past : (i % positions_most < t → ⊥) → Built masks table v t (i + 1) now
-    built-past past = record { size = b.size; row = row; inside = b.inside; rest = λ n l. b.rest n (omega arith) }
-      where
-        row : (n s : ℕ) → n < i + 1 → n % positions_most < t → rows_has now n s ≡ some_below (2 ^ v) (λ w. bit (get_or masks n 0) w && rows_has table w s)
-        row n s l h = ⊎_elim (λ lt. b.row n s lt h) (λ e. absurd (past (subst (λ (n : ℕ). n % positions_most < t) e h))) (below_split i n l)
-
-    pub built-more : (after into onto into' onto' : List ℕ) → ((w : ℕ) → 2 ^ v ≤ w → NoRow table w)
-        → MaskSet table (get_or masks i 0) (i / positions_most) (i % positions_most) now into onto after into' onto' → Built masks table v t (i + 1) after
-    built-more after into onto into' onto' empty one = record {
-      size = one.size ∙ b.size;
-      row = λ n s l h. ⊎_elim (λ lt. other n s (λ e. omega arith) ∙ b.row n s lt h) (λ e. rw e (drawn-is table v empty (get_or masks i 0) s _ (here s))) (below_split i n l);
-      inside = λ n s x. ⊎_elim (λ e. set-row n s (eqb→eq n i e) x) (λ d. b.inside n s (rw (other n s (λ e. T_not (eqb n i) d (rw e (eqb_refl i)))) at x)) (test (eqb n i));
-      rest = λ n l s x. b.rest n (omega arith) s (rw (other n s (λ e. omega arith)) at x);
-    }
-      where
-        whole : cell (i / positions_most) (i % positions_most) ≡ i
-        whole = omega arith
-
-        here : (s : ℕ) → T (rows_has after i s) ↔ Drawn table (get_or masks i 0) s
-        here s = rw whole at (one.here s)
-
-        other : (n s : ℕ) → (n ≡ i → ⊥) → rows_has after n s ≡ rows_has now n s
-        other n s d = one.other n s (λ e. d (e ∙ whole))
-
-        set-row : (n s : ℕ) → n ≡ i → T (rows_has after n s) → T (some_below (2 ^ v) (λ w. rows_has table w s))
-        set-row n s e x =
-            let mask = get_or masks i 0 in
-            let r = some_at (λ w. bit mask w && rows_has table w s) (2 ^ v) (drawn-some table v empty mask s ((here s).0 (rw e at x))) in
-            some_in (λ w. rows_has table w s) (2 ^ v) r.0 r.1 (and_right (bit mask r.0) (rows_has table r.0 s) r.2)
+      set-row : (n s : ℕ) → n ≡ i → T (rows_has after n s) → T (some_below (2 ^ v) (λ w. rows_has table w s))
+      set-row n s e x =
+          let mask = get_or masks i 0 in
+          let r = some_at (λ w. bit mask w && rows_has table w s) (2 ^ v) (drawn-some table v empty mask s ((one.here s).0 (rw e at x))) in
+          some_in (λ w. rows_has table w s) (2 ^ v) r.0 r.1 (and_right (bit mask r.0) (rows_has table r.0 s) r.2)
 
 -- it is the table that is asked for
 pub built-allowed : (masks table rows : List ℕ) (arg : ℕ → ℕ) (all : ℕ → Bool) (v t : ℕ) (out : List ℕ) → t ≤ positions_most
-    → ((w s : ℕ) → w < 2 ^ v → rows_has table w s ≡ (all s && agrees v w (argument_at rows arg s))) → Built masks table v t (positions_most * t) out
+    → ((w s : ℕ) → w < 2 ^ v → rows_has table w s ≡ (all s && agrees v w (argument_at rows arg s))) → Built masks table v t (cell t 0) out
     → (A : Automaton) → v ≡ A.variables → ((p q w : ℕ) → p < t → q < t → bit (get_or masks (cell p q) 0) w ≡ A.goes (p + 1) w (q + 1))
     → Allowed A t rows arg all out
 built-allowed masks table rows arg all v t out few valued b A e at = record {

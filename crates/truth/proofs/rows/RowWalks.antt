@@ -1,5 +1,5 @@
 -- A loop over the nodes of a row, which takes one out of what is left each turn: what is left becomes less; the nodes before the row's,
--- gathered; the nodes sorted by a test; what holds of each member that was visited.
+-- gathered; the nodes sorted, and filtered, by a test; what holds of each member that was visited.
 use mathlib.Core.Path.{◌≡◌, refl}
 use mathlib.Core.Logic.{◌⊎◌, inl, inr, ◌↔◌, ⊎_elim, ⊎_map, by_cases}
 use Prim.Native.Nat.{ℕ, ◌+◌, ◌-◌, ◌*◌, ◌≤◌, ◌<◌}
@@ -96,6 +96,41 @@ module _ (P : ℕ → Type 0) (look : ℕ → Bool) where
         fewer = λ s x. ⊎_elim (g.fewer s) (λ e. rw e (g.rest u t)) (more-cases s x);
         none = λ s x. ⊎_elim (g.none s) (λ e y. n (rw e at y)) (more-cases s x);
         others = λ s x. ⊎_elim (λ l. ⊎_elim (λ e. inr (inl (rw e here))) inl (less-or left left' u less s l)) (λ r. inr (⊎_map (was s) (λ y. y) r)) (g.others s x);
+      }
+        where
+          here : T (out' u)
+          here = rw (more u) (or_right (out u) (within 1 members_most u && eqb u u) (and_both (within 1 members_most u) (eqb u u) (within_in 1 members_most u lo hi) (eqb_refl u)))
+
+          was : (s : ℕ) → T (out s) → T (out' s)
+          was s o = rw (more s) (or_left (out s) (within 1 members_most u && eqb s u) o)
+
+-- ---- the nodes filtered by a test: `out` has those that are not left and pass, of which Y holds; N holds of the others
+pub record Filtered (Y N : ℕ → Type 0) (row left out : ℕ → Bool) : Type 0 where
+  pub rest : (s : ℕ) → T (left s) → T (row s)
+  pub passed : (s : ℕ) → T (out s) → T (row s) × Y s
+  pub others : (s : ℕ) → T (row s) → T (left s) ⊎ (T (out s) ⊎ N s)
+
+module _ (Y N : ℕ → Type 0) (row : ℕ → Bool) where
+  pub filtered_none : (out : ℕ → Bool) → ((s : ℕ) → out s ≡ false) → Filtered Y N row row out
+  filtered_none out e = record { rest = λ s t. t; passed = λ s t. absurd (rw (e s) at t); others = λ s t. inl t }
+
+  module _ (left left' out : ℕ → Bool) (u : ℕ) (g : Filtered Y N row left out) (t : T (left u)) (less : Less left u left') where
+    pub filtered-no : N u → Filtered Y N row left' out
+    filtered-no n = record {
+      rest = λ s x. g.rest s (less-in left left' u less s x);
+      passed = g.passed;
+      others = λ s x. ⊎_elim (λ l. ⊎_elim (λ e. inr (inr (rw e n))) inl (less-or left left' u less s l)) inr (g.others s x);
+    }
+
+    module _ (out' : ℕ → Bool) (more : (i : ℕ) → out' i ≡ (out i || (within 1 members_most u && eqb i u))) where
+      added : (s : ℕ) → T (out' s) → T (out s) ⊎ (s ≡ u)
+      added s x = ⊎_map (λ o. o) (λ w. eqb→eq s u (and_right (within 1 members_most u) (eqb s u) w)) (or_cases (out s) (within 1 members_most u && eqb s u) (rw (more s) at x))
+
+      pub filtered-yes : 1 ≤ u → u ≤ members_most → Y u → Filtered Y N row left' out'
+      filtered-yes lo hi y = record {
+        rest = λ s x. g.rest s (less-in left left' u less s x);
+        passed = λ s x. ⊎_elim (g.passed s) (λ e. rw e (g.rest u t, y)) (added s x);
+        others = λ s x. ⊎_elim (λ l. ⊎_elim (λ e. inr (inl (rw e here))) inl (less-or left left' u less s l)) (λ r. inr (⊎_map (was s) (λ n. n) r)) (g.others s x);
       }
         where
           here : T (out' u)

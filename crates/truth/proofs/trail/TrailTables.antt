@@ -1,5 +1,7 @@
 -- The list of pairs that a trail makes in three arrays: the nodes and the positions by place, from 1, and the places by pair, 128 a position.
 use mathlib.Core.Path.{◌≡◌, ◌∙◌}
+use Rattle.std.proofs.Props.{props}
+use Rattle.std.proofs.Math.Logic.{∥∥₁_elim}
 use mathlib.Core.Logic.{◌⊎◌, inl, inr, by_cases}
 use Prim.Native.Nat.{ℕ, suc, ◌+◌, ◌-◌, ◌*◌, ◌≤◌, ◌<◌}
 use native.Mathlib.Nat.{mul-le-mul}
@@ -18,6 +20,17 @@ use Rattle.truth.proofs.tables.TableLaws.{time-here, time-other}
 use Rattle.truth.proofs.trail.TrailTurns.{in-places}
 use Rattle.truth.proofs.trail.TrailPairs.{Listed, room, next-places}
 use Rattle.truth.proofs.trail.TrailLoops.{Further, listed_more, closed}
+
+-- ---- facts of which it is known that they hold, and no more
+module _ {P R : Type 0} (one : IsProp R) where
+  pub told : ∥ P ∥₁ → (P → R) → R
+  told t = ∥∥₁_elim t one
+
+  pub both_told : {Q : Type 0} → ∥ P ∥₁ → ∥ Q ∥₁ → (P → Q → R) → R
+  both_told t u f = told t (λ p. ∥∥₁_elim u one (f p))
+
+pub looped_prop : {allow next : List ℕ} {t n : ℕ} {xs : List ℕ} {s : ℕ} {node position : ℕ → ℕ} {len : ℕ} (back : ℕ) → IsProp (Looped allow next t n xs s node position len back)
+looped_prop back = Prim.hlevel props
 
 -- ---- a store by place
 module _ (xs : List ℕ) (len x : ℕ) (l : len < length xs) where
@@ -108,7 +121,7 @@ module _ {allow next : List ℕ} {t n : ℕ} {xs ys times : List ℕ} {s : ℕ} 
       after : Advances allow next t xs ys times (placed positions len) (placed nodes len) q v
       after = rw (h.last-position, h.last-node) a
 
-      pub listing-range : (q < positions_most) × (1 ≤ v) × (v ≤ members_most)
+      listing-range : (q < positions_most) × (1 ≤ v) × (v ≤ members_most)
       listing-range = next-places w h.list after
 
       pub listing-closed : (time_of places q v ≡ 0 → ⊥) → Looped allow next t n xs s (placed nodes) (placed positions) len (time_of places q v)

@@ -8,7 +8,7 @@ use mathlib.Core.Bool.{true, false}
 use lib.Dec.{T, T_not}
 use Rattle.truth.specs.Sizes.{positions_most, members_most}
 use Rattle.truth.specs.inner.Rows.{rows_has}
-use Rattle.truth.specs.inner.Pairs.{PairStep, Onward, time_of, Sooner}
+use Rattle.truth.specs.inner.Pairs.{PairStep, Onward, Sooner}
 use Rattle.truth.specs.inner.Trails.{Traceable, Advances}
 use Rattle.truth.proofs.rows.RowLaws.{held_in}
 use Rattle.truth.proofs.structure.EdgesBack.{reaches-up}
@@ -35,6 +35,3 @@ module _ {allow next : List ℕ} {t n : ℕ} {xs ys times : List ℕ} {s : ℕ} 
       lasting = λ x. i;
       falls = λ x. absurd (T_not (rows_has xs p u) x (rw e tt));
     }
-
-    pub advances-sooner : rows_has xs p u ≡ false → T (rows_has ys p' u') → time_of times p' u' < time_of times p u → Advances allow next t xs ys times p u p' u'
-    advances-sooner e i h = record { steps = step; inside = i; lasting = λ x. absurd (rw e at x); falls = λ x. h }

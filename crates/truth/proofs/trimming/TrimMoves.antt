@@ -7,7 +7,7 @@ use mathlib.Core.List.{List}
 use mathlib.Core.Bool.{Bool, true, not, ◌&&◌}
 use lib.Dec.{T, T_not}
 use Rattle.sheets.specs.Words.{each}
-use Rattle.sheets.proofs.Tests.{contrary, and_left, and_right, and_both}
+use Rattle.sheets.proofs.Tests.{contrary, and_left, and_both}
 use Rattle.truth.specs.Sizes.{members_most, cell}
 use Rattle.truth.specs.inner.Rows.{rows_has}
 use Rattle.truth.specs.inner.Pairs.{Onward}
@@ -36,9 +36,6 @@ module _ {allow next : List ℕ} {t : ℕ} where
         (λ w. inr (g.fewer p s w.0, w.1)) (k.gains p s x);
     largest = λ W l i. k.largest W l (g.largest W l i);
   }
-
-  pub moved_none : {xs gone : List ℕ} → Moved allow next t xs gone xs gone
-  moved_none = record { shrunk = shrunk-none; stays = λ p s x. inl x; keeps = λ p s x. x }
 
   module _ {xs gone xs' gone' : List ℕ} (g : Moved allow next t xs gone xs' gone') where
     pub moved_more : {xs'' gone'' : List ℕ} → Moved allow next t xs' gone' xs'' gone'' → Moved allow next t xs gone xs'' gone''
@@ -78,9 +75,6 @@ module _ {allow : List ℕ} {p p2 : ℕ} {pre look : ℕ → Bool} {xs : List �
 
   pub look_in : (s : ℕ) → T (look s) → T (rows_has xs p s)
   look_in s x = and_left (rows_has xs p s) (rows_has allow (cell p p2) s) (of-both s x)
-
-  pub look-allowed : (s : ℕ) → T (look s) → T (rows_has allow (cell p p2) s)
-  look-allowed s x = and_right (rows_has xs p s) (rows_has allow (cell p p2) s) (of-both s x)
 
   -- nothing to look at
   pub none-looked : (next : List ℕ) (t : ℕ) (gone : List ℕ) → true ≡ each members_most (λ s. not (look s)) → OwingTo allow next t p2 pre xs gone p

@@ -1,6 +1,6 @@
 -- The first pass of trimming: the pairs with nothing ahead went, row after row; what is left then is owed a step.
-use mathlib.Core.Path.{◌≡◌, refl, ◌∙◌}
-use mathlib.Core.Logic.{inl, inr, ◌↔◌, ⊎_elim, ⊎_map, by_cases}
+use mathlib.Core.Path.{◌≡◌, ◌∙◌}
+use mathlib.Core.Logic.{inr, ◌↔◌, ⊎_elim, ⊎_map, by_cases}
 use Prim.Native.Nat.{ℕ, ◌+◌, ◌<◌}
 use native.Mathlib.Omega.{arith}
 use native.Mathlib.Decide.{ℕ_discrete}
@@ -9,22 +9,12 @@ use mathlib.Core.Bool.{Bool, not, ◌&&◌}
 use lib.Dec.{T, T_not}
 use Rattle.sheets.proofs.Tests.{surely, and_left, and_right, and_both}
 use Rattle.truth.specs.inner.Rows.{rows_has}
-use Rattle.truth.specs.inner.Pairs.{UpTo, Transposed, Before, NoRow, Lasts, Inside}
+use Rattle.truth.specs.inner.Pairs.{UpTo, Transposed, Before, Lasts, Inside}
 use Rattle.truth.specs.inner.Trimmed.{SomeBelow, Taken, Owing, Ahead, Started}
 use Rattle.truth.proofs.rows.RowLaws.{held_in}
 use Rattle.truth.proofs.structure.EdgesBack.{back-of, edge_of}
 use Rattle.truth.proofs.trimming.TrimSteps.{Through}
 use Rattle.truth.proofs.trimming.TrimTaken.{taken-fewer, taken_not, taken-stays, taken-gone, taken-keeps, taken-gains}
-
-pub started_none : {allow back : List ℕ} {t : ℕ} {xs gone : List ℕ} → ((p : ℕ) → NoRow gone p) → Started allow back t 0 xs xs gone
-started_none none = record {
-  size = refl;
-  fewer = λ p s x. x;
-  ahead = λ p s l. absurd (omega arith);
-  stays = λ p s x. inl x;
-  takes = λ p s x. absurd (none p s x);
-  none = λ p s x. absurd (none p s x);
-}
 
 module _ {allow back : List ℕ} (table : List ℕ) {t p : ℕ} {start xs gone xs' gone' : List ℕ} (on : ℕ → Bool) {lost : ℕ → Bool}
     (table_is : (k s : ℕ) → k < t → T (rows_has table k s) ↔ Before back (rows_has start k) s) (on_is : (s : ℕ) → T (on s) ↔ SomeBelow t (Through allow table p s))

@@ -3,7 +3,7 @@ use mathlib.Core.Path.{◌≡◌, sym, ◌∙◌}
 use mathlib.Core.Logic.{◌↔◌, ⊎_elim}
 use Prim.Native.Nat.{ℕ, ◌+◌, ◌-◌, ◌*◌, ◌<◌}
 use mathlib.Core.List.{List}
-use mathlib.Core.Bool.{Bool, true, false, not, ◌&&◌, ◌||◌}
+use mathlib.Core.Bool.{Bool, true, not, ◌&&◌, ◌||◌}
 use lib.ListN.{get_or}
 use lib.Dec.{T, not_T}
 use Rattle.sheets.specs.Words.{each}
@@ -12,9 +12,9 @@ use Rattle.truth.specs.Sizes.{row_words, members_most, low_at, high_at, cell}
 use Rattle.truth.specs.inner.Rows.{held, rows_has}
 use Rattle.truth.specs.inner.Pairs.{Onward}
 use Rattle.truth.specs.inner.Links.{Among}
-use Rattle.truth.specs.inner.Trimmed.{SomeBelow, Common, Stuck}
+use Rattle.truth.specs.inner.Trimmed.{SomeBelow, Common, Meeting}
 use Rattle.truth.proofs.rows.RowLaws.{held_in, none_passes, one_passes}
-use Rattle.truth.proofs.rows.RowWalks.{Less, Sorted, Visited, visited-none, visited-next, visited-end}
+use Rattle.truth.proofs.rows.RowWalks.{Less, Visited, visited-next}
 
 -- ---- rows that meet
 pub meet-is : (a b c d : ℕ) (r : Bool) → r ≡ not (each members_most (λ s. not (held a b s && held c d s))) → T r ↔ Common (held a b) (held c d)
@@ -43,13 +43,7 @@ pub record Passing (allow table : List ℕ) (p : ℕ) (from left out : ℕ → B
   pub found : (s : ℕ) → T (out s) → Among from (Through allow table p s)
 
 module _ (allow table : List ℕ) (p : ℕ) (from : ℕ → Bool) where
-  pub passing-none : (out : ℕ → Bool) → ((s : ℕ) → out s ≡ false) → Passing allow table p from from out
-  passing-none out e = record { visited = visited-none _ from; found = λ s t. absurd (rw (e s) at t) }
-
   module _ (left out : ℕ → Bool) (g : Passing allow table p from left out) where
-    pub passing-end : ((u : ℕ) → T (left u) → ⊥) → (s : ℕ) → T (out s) ↔ Among from (Through allow table p s)
-    passing-end none s = (g.found s, λ r. visited-end _ from left g.visited none r.0 r.1 s r.2)
-
     pub passing-next : (left' out' step : ℕ → Bool) (u a b c d : ℕ) → T (left u) → Less left u left' → ((s : ℕ) → out' s ≡ (out s || step s))
         → ((s : ℕ) → step s ≡ (held a b s && held c d s)) → a ≡ get_or allow (low_at (cell p (u - 1))) 0 → b ≡ get_or allow (high_at (cell p (u - 1))) 0
         → c ≡ get_or table (row_words * (u - 1)) 0 → d ≡ get_or table (row_words * (u - 1) + 1) 0 → Passing allow table p from left' out'
@@ -69,45 +63,25 @@ module _ (allow table : List ℕ) (p : ℕ) (from : ℕ → Bool) where
         whole s = e s ∙ rw (f s, ea, eb, ec, ed)
 
 -- ---- at s the automaton may go from p to k, whose row has a node of the two words
-abbrev pub Meeting : List ℕ → List ℕ → ℕ → ℕ → ℕ → ℕ → ℕ → Type 0
-Meeting allow xs e f p s k = T (rows_has allow (cell p k) s) × Common (held e f) (rows_has xs k)
-
 module _ (allow xs : List ℕ) (e f p s k a b : ℕ) (h : Bool) (ea : a ≡ get_or allow (low_at (cell p k)) 0) (eb : b ≡ get_or allow (high_at (cell p k)) 0) (has : h ≡ held a b s) where
   allowed-is : h ≡ rows_has allow (cell p k) s
   allowed-is = has ∙ rw (ea, eb)
-
-  pub allowed-not : h ≡ false → Meeting allow xs e f p s k → ⊥
-  allowed-not n r = rw (sym allowed-is ∙ n) at r.0
 
   module _ (c d : ℕ) (m : Bool) (ec : c ≡ get_or xs (row_words * k) 0) (ed : d ≡ get_or xs (row_words * k + 1) 0) (meets : m ≡ not (each members_most (λ u. not (held e f u && held c d u)))) where
     common-is : T m ↔ Common (held e f) (rows_has xs k)
     common-is = rw (ec, ed) at (meet-is e f c d m meets)
 
-    pub meeting-yes : h ≡ true → m ≡ true → Meeting allow xs e f p s k
-    meeting-yes y z = (rw (sym allowed-is ∙ y) tt, common-is.0 (rw z tt))
-
-    pub meeting-not : m ≡ false → Meeting allow xs e f p s k → ⊥
-    meeting-not n r = rw n at (common-is.1 r.1)
+    -- where it may, it meets what the row meets
+    pub meeting-is : h ≡ true → T m ↔ Meeting allow xs (held e f) p s k
+    meeting-is y = (λ z. (rw (sym allowed-is ∙ y) tt, common-is.0 z), λ r. common-is.1 r.1)
 
 -- ---- a step is a meeting with the successors
 module _ (allow next xs : List ℕ) (t p s e f : ℕ) (ee : e ≡ get_or next (row_words * (s - 1)) 0) (ef : f ≡ get_or next (row_words * (s - 1) + 1) 0) where
-  pub meeting-onward : SomeBelow t (Meeting allow xs e f p s) → Onward allow next t (rows_has xs) p s
+  pub meeting-onward : SomeBelow t (Meeting allow xs (held e f) p s) → Onward allow next t (rows_has xs) p s
   meeting-onward r = let u = r.2.1 in (r.0, u.0, record { below = r.1; allowed = r.2.0; moves = rw (ee, ef) at u.1 }, u.2)
-
-  pub onward-meeting : Onward allow next t (rows_has xs) p s → SomeBelow t (Meeting allow xs e f p s)
-  onward-meeting r = let h = r.2 in (r.0, h.below, (h.allowed, (r.1, rw (ee, ef) h.moves, r.3)))
 
   pub meets-onward : (p2 c d : ℕ) (m : Bool) → p2 < t → T (rows_has allow (cell p p2) s) → c ≡ get_or xs (row_words * p2) 0 → d ≡ get_or xs (row_words * p2 + 1) 0
       → m ≡ not (each members_most (λ u. not (held e f u && held c d u))) → m ≡ true → Onward allow next t (rows_has xs) p s
   meets-onward p2 c d m l a ec ed meets y =
       let is : T m ↔ Common (held e f) (rows_has xs p2) = rw (ec, ed) at (meet-is e f c d m meets) in
       meeting-onward (p2, l, (a, is.0 (rw y tt)))
-
--- ---- nodes that are all sorted by whether a step leads from them
-pub sorted-stuck : (allow next : List ℕ) (t : ℕ) (xs : List ℕ) (p : ℕ) (look left out : ℕ → Bool) → Sorted (Onward allow next t (rows_has xs) p) look left out
-    → ((s : ℕ) → T (left s) → ⊥) → Stuck allow next t xs p look out
-sorted-stuck allow next t xs p look left out g none = record {
-  fewer = g.fewer;
-  none = g.none;
-  others = λ s x. ⊎_elim (λ l. absurd (none s l)) (λ r. r) (g.others s x);
-}

@@ -1,8 +1,8 @@
 -- Rows: a set of nodes, from 1, in two words, node s at bit s - 1 of both together.
-use Rattle.std.specs.Prelude.{◌≡◌, ℕ, zero, suc, ◌+◌, ◌-◌, ◌≤◌, Bool, true, false, ◌&&◌, not, List, get_or, T, leb, eqb, Option, MatchOption}
+use Rattle.std.specs.Prelude.{◌≡◌, ℕ, zero, suc, ◌+◌, ◌-◌, ◌*◌, ◌≤◌, Bool, true, false, ◌&&◌, not, List, length, get_or, set, T, leb, eqb, Option, MatchOption}
 use Rattle.sheets.specs.Words.{bit, within, indicator, any_of}
 use Rattle.sheets.specs.Machine.{edges_of, target}
-use Rattle.truth.specs.Sizes.{row_word_bits, high_first, members_most, low_at, high_at}
+use Rattle.truth.specs.Sizes.{row_word_bits, row_words, high_first, members_most, low_at, high_at}
 use Rattle.truth.specs.declared.rows.Row.{Row}
 
 unfoldable pub pick : Bool → Bool → Bool → Bool
@@ -21,6 +21,18 @@ row_has r s = held r.low r.high s
 abbrev pub rows_has : List ℕ → ℕ → ℕ → Bool
 rows_has ys p s = held (get_or ys (low_at p) 0) (get_or ys (high_at p) 0) s
 
+-- a table has a row for line j, lines from 1
+abbrev pub HasRow : List ℕ → ℕ → Type 0
+HasRow ys j = (1 ≤ j) × (row_words * j ≤ length ys)
+
+-- r is row p of a table
+abbrev pub IsRow : List ℕ → ℕ → Row → Type 0
+IsRow ys p r = (r.low ≡ get_or ys (low_at p) 0) × (r.high ≡ get_or ys (high_at p) 0)
+
+-- a table with row r as its row p
+abbrev pub with_row : List ℕ → ℕ → Row → List ℕ
+with_row ys p r = set (set ys (low_at p) r.low) (high_at p) r.high
+
 -- how many of 1 to n pass
 unfoldable pub tally : ℕ → (ℕ → Bool) → ℕ
 unfolding indicator
@@ -31,11 +43,6 @@ tally (suc n) p = tally n p + indicator (p (suc n))
 unfoldable pub leads_into : List ℕ → (ℕ → Bool) → ℕ → Bool
 unfolding any_of
 leads_into M p s = any_of (edges_of M s) (λ x. p (target M x))
-
--- e is a mark that a row may have, of a node that a row may have and that some edge of node s leads to
-unfoldable pub marks_into : List ℕ → List ℕ → ℕ → ℕ → Bool
-unfolding leads_into
-marks_into M mark s e = within 1 members_most e && leads_into M (λ t. within 1 members_most t && eqb (get_or mark t 0) e) s
 
 -- node u of the row comes in an order before all others of the row
 pub record Leading (before : ℕ → ℕ → Type 0) (r : Row) (u : ℕ) : Type 0 where

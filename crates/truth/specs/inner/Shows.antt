@@ -1,14 +1,24 @@
 -- The list that is made for one path line from the rows above it.
-use Rattle.std.specs.Prelude.{ℕ, ◌*◌, ◌≤◌, List, Bool, Some, None, Ok, Err}
-use Rattle.sheets.specs.Machine.{nodes, kripke}
-use Rattle.sheets.specs.Rules.{automaton}
-use Rattle.sheets.specs.Positioned.{state_count}
+use Rattle.std.specs.Prelude.{◌≡◌, ℕ, ◌*◌, ◌≤◌, List, Bool, Some, None, Ok, Err}
+use Rattle.sheets.specs.Machine.{nodes, kripke, machine_refusal}
+use Rattle.sheets.specs.Rules.{lent, automata, automaton, rule_refusal}
+use Rattle.sheets.specs.Positioned.{state_count, positioned}
 use Rattle.truth.specs.Labelling.{row_truths}
 use Rattle.truth.specs.Lists.{Lasso}
-use Rattle.truth.specs.inner.Product.{good}
+use Rattle.truth.specs.inner.Product.{good, Refers}
 use Rattle.truth.specs.inner.OneLine.{Holds}
 use Rattle.truth.specs.inner.Trails.{placed}
 use Rattle.truth.specs.PathAnswers.{Answer}
+
+-- a path line of automaton x may be asked about at node s: the sheets are accepted, its argument lines have rows, and s is a node
+pub record Askable (M R rows : List ℕ) (arg : ℕ → ℕ) (x s : ℕ) : Type 0 where
+  pub machine : machine_refusal M ≡ 0
+  pub rules : rule_refusal lent R ≡ 0
+  pub from : 1 ≤ x
+  pub to : x ≤ automata R
+  pub arguments : Refers rows arg (positioned R x).variables
+  pub low : 1 ≤ s
+  pub high : s ≤ nodes M
 
 -- What is said of a path line of automaton x at node s, by the bits of the rows of its argument lines: no path where none exists; otherwise the list of nodes and states
 -- shows one.

@@ -38,6 +38,10 @@ Earlier times before p s = IfSome before (λ time. time_of times p s < time)
 abbrev pub Wanted : List ℕ → List ℕ → Option ℕ → ℕ → ℕ → Type 0
 Wanted set times before p s = T (rows_has set p s) × Earlier times before p s
 
+-- no step from (p, u) leads to a pair of W at position k
+abbrev pub NoStep : List ℕ → List ℕ → ℕ → ℕ → ℕ → (ℕ → ℕ → Type 0) → ℕ → Type 0
+NoStep allow next t p u W k = (v : ℕ) → PairStep allow next t p u k v → W k v → ⊥
+
 -- (p', u') is the pair after (p, u): one of `xs` after one of `xs`, and otherwise one of `ys` with an earlier time
 pub record Advances (allow next : List ℕ) (t : ℕ) (xs ys times : List ℕ) (p u p' u' : ℕ) : Type 0 where
   pub steps : PairStep allow next t p u p' u'

@@ -13,6 +13,10 @@ SomeBelow t P = (k : ℕ) × (k < t) × P k
 abbrev pub Common : (ℕ → Bool) → (ℕ → Bool) → Type 0
 Common a b = (u : ℕ) × T (a u) × T (b u)
 
+-- at s the automaton may go from p to k, whose row of `xs` has a node of `to`
+abbrev pub Meeting : List ℕ → List ℕ → (ℕ → Bool) → ℕ → ℕ → ℕ → Type 0
+Meeting allow xs to p s k = T (rows_has allow (cell p k) s) × Common to (rows_has xs k)
+
 -- of the nodes of `look`, `out` has those from which no step from p leads into `xs`
 pub record Stuck (allow next : List ℕ) (t : ℕ) (xs : List ℕ) (p : ℕ) (look out : ℕ → Bool) : Type 0 where
   pub fewer : (s : ℕ) → T (out s) → T (look s)

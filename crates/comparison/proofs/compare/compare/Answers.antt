@@ -29,7 +29,7 @@ one_sided-requires c =
     let e = sym (no_number _ c.in_ok-check_comparison.ensures.refusal) in
     let k = small a.m1.now a.m2.now a.space.now e in
     let f = fits a.m1.now a.m2.now a.space.now e c.refine-partition.result c.refine-partition.ensures in
-    record { nodes1 = k.0; nodes2 = k.1; few = omega arith }
+    record { nodes1 = k.0; nodes2 = k.1 }
 
 pub returns-in-None : goal.returns-in-None
 returns-in-None c =
@@ -38,14 +38,6 @@ returns-in-None c =
     let r = c.refine-partition in
     equal-answer a.m1.now a.m2.now a.space.now e r.result r.ensures c.in-None.ensures
 
-pub bounds-partition-c : goal.bounds-partition-c
-bounds-partition-c c =
-    let a = c.args in
-    let e = sym (no_number _ c.in_ok-check_comparison.ensures.refusal) in
-    let r = c.refine-partition in
-    let f = fits a.m1.now a.m2.now a.space.now e r.result r.ensures in
-    omega (arith, c.in-Some.ensures.0)
-
 pub push-requires : goal.push-requires
 push-requires c =
     let a = c.args in
@@ -53,19 +45,20 @@ push-requires c =
     let r = c.refine-partition in
     (fits a.m1.now a.m2.now a.space.now e r.result r.ensures).2
 
-pub put_sheet-requires : goal.put_sheet-requires
-put_sheet-requires c =
+pub put_sheet-requires-clause-fits : goal.put_sheet-requires-clause-fits
+put_sheet-requires-clause-fits c =
     let a = c.args in
     let e = sym (no_number _ c.in_ok-check_comparison.ensures.refusal) in
     let r = c.refine-partition in
     let f = fits a.m1.now a.m2.now a.space.now e r.result r.ensures in
-    let pushed = c.push.ensures.pushed in
-    record {
-      fits = omega (arith, f.1, pushed.count);
-      some = omega (arith, pushed.count);
-      few = omega (arith, f.2, pushed.count);
-      listed = listed a.m1.now a.m2.now a.space.now e r.result r.ensures _ c.in-Some.ensures c.push.new.self (search rules) pushed;
-    }
+    omega (arith, f.1, c.push.ensures.pushed.count)
+
+pub put_sheet-requires-clause-listed : goal.put_sheet-requires-clause-listed
+put_sheet-requires-clause-listed c =
+    let a = c.args in
+    let e = sym (no_number _ c.in_ok-check_comparison.ensures.refusal) in
+    let r = c.refine-partition in
+    listed a.m1.now a.m2.now a.space.now e r.result r.ensures _ c.in-Some.ensures c.push.new.self (search rules) c.push.ensures.pushed
 
 pub returns-in-Some : goal.returns-in-Some
 returns-in-Some c =

@@ -3,6 +3,10 @@ use Rattle.comparison.proofs.PastedSheet.{held, sheet-pasted}
 use Rattle.comparison.proofs.compare.put_sheet.Goals as goal
 
 pub returns : goal.returns
-returns c a ls down holds len =
-    let got = c.shorten.ensures.shortened a ls down holds len in
-    (got.0, got.1, sheet-pasted c.args.space.now _ _ _ _ c.put_head.ensures c.put_lines.ensures got.0 got.3 (held got.2 got.3))
+returns c a ls lists =
+    let got = c.shorten.ensures.shortened a ls lists in
+    record {
+      short = got.short;
+      shortened = got.shortened;
+      stands = sheet-pasted c.args.space.now _ _ _ _ c.put_head.ensures c.put_lines.ensures got.short got.count (held got.holds got.count);
+    }

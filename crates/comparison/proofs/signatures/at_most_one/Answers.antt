@@ -5,9 +5,6 @@ use Rattle.truth.proofs.rows.RowLaws.{held_in}
 use Rattle.comparison.proofs.Surveys.{one_only}
 use Rattle.comparison.proofs.signatures.at_most_one.Goals as goal
 
-pub returns-in-None : goal.returns-in-None
-returns-in-None c = record { node = 0; only = λ e s t. absurd (c.in-None.ensures s t) }
-
 pub returns-in-Some : goal.returns-in-Some
 returns-in-Some c =
     let w = c.without in

@@ -1,28 +1,12 @@
--- `unlike` meets its contract. The invariant: the nodes that are not left have the signature l.
-use mathlib.Core.Path.{◌≡◌, sym, ◌∙◌}
-use Rattle.comparison.specs.inner.Signatures.{MarksIn}
-use Rattle.comparison.proofs.Surveys.{liked-none, liked-next, liked-end, liked-not}
+-- `unlike` meets its contract: the first node from the highest on whose signature differs tells, or all came and none differs.
+use borrow.Author.Rules.{rules}
+use mathlib.Core.Path.{◌≡◌}
+use Rattle.truth.specs.inner.Rows.{row_has}
+use Rattle.comparison.proofs.UnlikeNodes.{apart-as, unlike-searched}
 use Rattle.comparison.proofs.signatures.unlike.Goals as goal
 
-pub loop-s-init : goal.loop-s-init
-loop-s-init c =
-    let same : c.into_iter-s-iterator.result.iter.left ≡ c.args.row = cc in
-    rw same (liked-none _ _ _ _)
-
-pub marks_into-requires : goal.marks_into-requires
-unfolding MarksIn
-marks_into-requires c =
-    let s = c.in-Some.s in
-    record { covered = λ e t. c.requires.marks s e (c.loop-s.invariant.fewer s c.in-Some.ensures.steps.first.is_in) t; tailed = c.requires.tailed }
-
-pub returns-in-Some-apart : goal.returns-in-Some-apart
-returns-in-Some-apart c =
-    let e = c.in-Some-apart.e in
-    liked-not _ _ _ _ _ c.in-Some.s e c.loop-s.invariant c.in-Some.ensures.steps.first.is_in (sym (c.marks_into.ensures e) ∙ c.in-Some-apart.ensures)
-
-pub loop-s-preserved : goal.loop-s-preserved
-loop-s-preserved c =
-    liked-next _ _ _ _ _ _ _ c.loop-s.invariant c.in-Some.ensures.steps.less (λ e. sym (c.marks_into.ensures e) ∙ c.in-None-apart.ensures e)
-
 pub returns : goal.returns
-returns c = liked-end _ _ _ _ _ c.loop-s.invariant c.in-None.ensures.steps.0
+returns c =
+    let a = c.args in
+    let same : c.rev.result.iter.left ≡ a.row = cc in
+    rw same at (unlike-searched (λ s. s.iter.left) _ (λ s t r k. k) a.m.now.words.now a.marks.now.of (row_has a.l) _ _ (λ x r q k. search rules) (λ x r k. search (rules, apart-as)) c.rev.result c.find_map.result c.find_map.ensures.runs)

@@ -5,14 +5,6 @@ use Rattle.std.proofs.lemmas.Result.{err_from_is_err_and}
 use Rattle.explain.proofs.Explanations.{explained-refused, explained-equal, told-within, told-rule, explained-unequal}
 use Rattle.explain.proofs.answer.explain_sheets.Goals as goal
 
-pub returns-in_err-answer : goal.returns-in_err-answer
-returns-in_err-answer c =
-    let p = err_from_is_err_and c.from_residual.result c.from_residual.ensures.1 in
-    rw (p.1, p.2) (explained-refused _ _ _ _ _ c.in_err-answer.ensures)
-
-pub returns-in-Equal : goal.returns-in-Equal
-returns-in-Equal c = explained-equal _ _ _ _ (rw c.in-Equal.is at c.in_ok-answer.ensures)
-
 pub slice_bounds-judge-end : goal.slice_bounds-judge-end
 slice_bounds-judge-end c =
     let told = rw c.in-Unequal.is at c.in_ok-answer.ensures in

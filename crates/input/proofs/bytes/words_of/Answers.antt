@@ -6,8 +6,3 @@ use Rattle.input.proofs.bytes.words_of.Goals as goal
 
 pub loop-i-preserved : goal.loop-i-preserved
 loop-i-preserved c = rw c.loop-i.invariant (words-next c.args.bytes.now c.args.words.now c.loop-i.i _ (omega arith) (omega arith) c.word_of.ensures)
-
-pub returns-clause-written : goal.returns-clause-written
-returns-clause-written c =
-    let i : c.loop-i.i ≡ c.min-n.result = omega arith in
-    rw (← i) c.loop-i.invariant

@@ -7,15 +7,6 @@ use Rattle.input.proofs.Cuts.{no-sheets, two-sheets}
 use borrow.Author.Rules.{rules}
 use Rattle.input.proofs.cut.sheets_of.Goals as goal
 
-pub returns-then-not-readable : goal.returns-then-not-readable
-returns-then-not-readable c = no-sheets _ _ (sym c.readable.ensures ∙ c.if-not-readable.true) _
-
-pub slice_bounds-first_end-end-2 : goal.slice_bounds-first_end-end-2
-slice_bounds-first_end-end-2 c =
-    let got = c.words_of-count in
-    let within : got.result ≤ length got.new.words = search rules in
-    sym (length-take-le got.result got.new.words within)
-
 pub returns : goal.returns
 returns c =
     let got = c.words_of-count in

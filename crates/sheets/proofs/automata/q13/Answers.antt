@@ -1,24 +1,20 @@
--- `q13` meets its contract.
+-- `q13` meets its contract: its closure answers for each automaton, of which each has few variables.
+use mathlib.Core.Path.{◌∙◌}
 use native.Mathlib.Omega.{arith}
-use Rattle.sheets.specs.Rules.{q13}
-use Rattle.sheets.proofs.EachLoops.{each-starts, test-goes, test-stops, each-ends}
+use Rattle.std.proofs.Common.{rules}
+use borrow.Author.Tests.{tests}
+use Rattle.sheets.specs.Rules.{q13, automaton_total}
+use Rattle.sheets.proofs.EachRecord.{all_records, serves_records}
 use Rattle.sheets.proofs.AutomatonLoops.{few-variables}
 use Rattle.sheets.proofs.automata.q13.Goals as goal
 
-pub loop-x-init : goal.loop-x-init
-loop-x-init c = search each-starts
-
-pub automaton_total-requires : goal.automaton_total-requires
-automaton_total-requires c =
-    few-variables _ _ c.requires (omega arith) (omega (arith, c.automata-x-end.ensures))
-
-pub returns-then-not-automaton_total : goal.returns-then-not-automaton_total
-unfolding q13
-returns-then-not-automaton_total c = search test-stops
-
-pub loop-x-preserved : goal.loop-x-preserved
-loop-x-preserved c = search test-goes
+pub all-requires-clause-callable : goal.all-requires-clause-callable
+all-requires-clause-callable c =
+    serves_records c.automata.result c.new.ensures.start c.new.ensures.end c.new.ensures.exhausted (λ x q d. search (rules, tests))
+    (λ x l h κs p g at r room u k. few-variables c.args.r.now x c.requires (omega arith) (omega (arith, h, c.automata.ensures)))
 
 pub returns : goal.returns
 unfolding q13
-returns c = search each-ends
+returns c =
+    all_records _ (automaton_total c.args.r.now) c.all.ensures.ran c.new.ensures.start (c.new.ensures.end ∙ c.automata.ensures)
+    c.new.ensures.exhausted (λ x b q k. search (rules, tests))

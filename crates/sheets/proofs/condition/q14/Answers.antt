@@ -1,25 +1,20 @@
--- `q14` meets its contract.
-use Prim.Native.Nat.{◌+◌}
+-- `q14` meets its contract: its closure answers for each automaton, of which each has few states.
+use mathlib.Core.Path.{◌∙◌}
 use native.Mathlib.Omega.{arith}
-use Rattle.sheets.specs.Rules.{q14}
-use Rattle.sheets.proofs.EachLoops.{each-starts, test-goes, test-stops, each-ends}
+use Rattle.std.proofs.Common.{rules}
+use borrow.Author.Tests.{tests}
+use Rattle.sheets.specs.Rules.{q14, states_of, unmixed}
+use Rattle.sheets.proofs.EachRecord.{all_records, serves_records}
 use Rattle.sheets.proofs.ReachedPositions.{few-states}
 use Rattle.sheets.proofs.condition.q14.Goals as goal
 
-pub loop-x-init : goal.loop-x-init
-loop-x-init c = search each-starts
-
-pub unmixed-requires : goal.unmixed-requires
-unmixed-requires c =
-    few-states c.args.r.now (c.loop-x.x + 1) c.requires (omega arith) (omega (arith, c.automata-x-end.ensures))
-
-pub returns-then-not-unmixed : goal.returns-then-not-unmixed
-unfolding q14
-returns-then-not-unmixed c = search test-stops
-
-pub loop-x-preserved : goal.loop-x-preserved
-loop-x-preserved c = search test-goes
+pub all-requires-clause-callable : goal.all-requires-clause-callable
+all-requires-clause-callable c =
+    serves_records c.automata.result c.new.ensures.start c.new.ensures.end c.new.ensures.exhausted (λ x q d. search (rules, tests))
+    (λ x l h κs p g at r room u k. few-states c.args.r.now x c.requires (omega arith) (omega (arith, h, c.automata.ensures)))
 
 pub returns : goal.returns
 unfolding q14
-returns c = search each-ends
+returns c =
+    all_records _ (λ x. unmixed c.args.r.now (states_of c.args.r.now x)) c.all.ensures.ran c.new.ensures.start (c.new.ensures.end ∙ c.automata.ensures)
+    c.new.ensures.exhausted (λ x b q k. search (rules, tests))

@@ -1,7 +1,6 @@
 -- `check_lines` meets its contract. The invariant: the lines passed, those below j, pass question 15.
 use mathlib.Core.Path.{refl, sym, ◌∙◌}
 use native.Mathlib.Omega.{arith}
-use Rattle.std.proofs.Common.{rules}
 use mathlib.Core.List.{[]}
 use Rattle.sheets.specs.Rules.{q15}
 use Rattle.sheets.proofs.CheckAnswers.{all-said, said-yes, said-no}

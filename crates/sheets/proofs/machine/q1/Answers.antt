@@ -11,4 +11,4 @@ returns-then-m-lt-MACHINE_HEADER c = simp (lt-leb machine_header _ c.if-m-lt-MAC
 pub returns : goal.returns
 unfolding q1
 returns c =
-    rw (le-leb machine_header _ c.if-m-lt-MACHINE_HEADER.false, c.edges-e.ensures, c.signals-a.ensures, c.nodes-n.ensures)
+    rw (le-leb machine_header _ c.if-m-lt-MACHINE_HEADER.false, c.within.ensures, c.within-2.ensures, c.within-3.ensures, c.edges-e.ensures, c.signals-a.ensures, c.nodes-n.ensures)

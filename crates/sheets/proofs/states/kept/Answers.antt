@@ -4,6 +4,3 @@ use Rattle.sheets.proofs.states.kept.Goals as goal
 
 pub returns-else-yes : goal.returns-else-yes
 returns-else-yes c k = rw c.if-yes.false (bit-none k)
-
-pub returns-then-yes : goal.returns-then-yes
-returns-then-yes c k = rw c.if-yes.true

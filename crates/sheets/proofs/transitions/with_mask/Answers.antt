@@ -1,15 +1,11 @@
 -- `with_mask` meets its contract: the mask of one position more.
-use mathlib.Core.Path.{refl, ◌∙◌}
+use mathlib.Core.Path.{◌∙◌}
 use native.Mathlib.Omega.{arith}
 use lib.ListN.{length-set}
 use lib.Seq.{get_or-set_other}
 use Rattle.sheets.proofs.Positions.{stored}
 use Rattle.sheets.proofs.LeavingChains.{Masked, masked-more}
-use borrow.Author.Rules.{rules}
 use Rattle.sheets.proofs.transitions.with_mask.Goals as goal
-
-pub loop-k-init : goal.loop-k-init
-loop-k-init c = (search rules, λ j l. absurd (omega arith), λ j l. refl)
 
 pub loop-k-preserved : goal.loop-k-preserved
 loop-k-preserved c =
@@ -20,6 +16,3 @@ loop-k-preserved c =
           (masked-more a.masks a.set.bits a.mask at.k _ _ _ (at.invariant.2 at.k (omega arith)) c.contains.ensures c.kept.ensures),
       λ j l. get_or-set_other at.masks at.k j _ 0 (λ e. omega arith) ∙ at.invariant.2 j (omega arith),
     )
-
-pub returns : goal.returns
-returns c k w l = c.loop-k.invariant.1 k (omega arith) w

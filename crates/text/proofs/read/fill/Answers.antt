@@ -1,13 +1,10 @@
 -- `fill` meets its contract. The loop's invariant: the reader has passed so many bytes, and the lent words are filled so far.
 use native.Mathlib.Omega.{arith}
-use Rattle.text.proofs.Filling.{filled_none, filled_more, filled-all, held_fits}
+use Rattle.text.proofs.Filling.{filled_none, filled_more, filled-all}
 use Rattle.text.proofs.read.fill.Goals as goal
 
 pub loop-byte-init : goal.loop-byte-init
 loop-byte-init c = rw c.start-reader.ensures (filled_none c.args.words.now c.args.text.now)
-
-pub put-requires : goal.put-requires
-put-requires c = held_fits _ _ _ _ _ _ c.loop-byte.invariant c.step-reader.ensures
 
 pub loop-byte-preserved : goal.loop-byte-preserved
 loop-byte-preserved c =

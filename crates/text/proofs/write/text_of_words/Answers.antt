@@ -15,9 +15,6 @@ returns-then-text-words-clause-left c = (text-refused c.args.words.now c.args.te
 pub loop-i-init : goal.loop-i-init
 loop-i-init c = wrote_none c.args.words.now c.args.text.now (omega arith)
 
-pub put_word-at-requires : goal.put_word-at-requires
-put_word-at-requires c = omega (arith, c.loop-i.invariant.size, c.loop-i.invariant.room)
-
 pub loop-i-preserved : goal.loop-i-preserved
 loop-i-preserved c =
     let put = c.put_word-at in

@@ -1,17 +1,7 @@
 -- `keeps` meets its contract: no start node is outside the row, since the start nodes are among 1 to 128.
 use Rattle.truth.specs.inner.Rows.{row_has}
 use Rattle.truth.proofs.labelling.StartRows.{starts-in}
-use native.Mathlib.Omega.{arith}
 use Rattle.truth.proofs.labelling.keeps.Goals as goal
-
-pub start_row-requires : goal.start_row-requires
-start_row-requires c = omega arith
-
-pub difference-requires : goal.difference-requires
-difference-requires c = omega arith
-
-pub is_empty-requires : goal.is_empty-requires
-is_empty-requires c = omega arith
 
 pub returns : goal.returns
 returns c =

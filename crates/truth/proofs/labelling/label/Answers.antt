@@ -1,7 +1,6 @@
 -- `label` meets its contract: the first "no" of the table refuses, and where none does, the last row answers.
 use Prim.Native.Nat.{◌^◌, ◌<◌}
 use native.Mathlib.Omega.{arith}
-use lib.ListN.{length}
 use Rattle.sheets.specs.Rules.{lent}
 use Rattle.sheets.proofs.Counting.{number-most}
 use Rattle.sheets.proofs.AcceptedMachine.{nodes-sized}
@@ -16,54 +15,47 @@ use Rattle.truth.proofs.labelling.label.Goals as goal
 
 pub returns-in_err-check_labelling : goal.returns-in_err-check_labelling
 returns-in_err-check_labelling c =
-    let a = c.args in
     let p = err_from_is_err_and c.from_residual.result c.from_residual.ensures.1 in
-    rw (p.1, p.2) (refused a.m.now a.r.now a.rows.now c.in_err-check_labelling.field-0.0 c.in_err-check_labelling.ensures.refusal)
+    rw (p.1, p.2) (refused _ _ c.args.rows.now c.in_err-check_labelling.field-0.0 c.in_err-check_labelling.ensures.refusal)
 
-pub label_lines-requires : goal.label_lines-requires
-label_lines-requires c =
-    let a = c.args in
-    let e = asked a.m.now a.r.now a.rows.now c.in_ok-check_labelling.ensures.refusal in
-    let space = length a.rows.now in
-    let machine = machine-accepted a.m.now a.r.now space e in
-    let rules = rules-accepted a.m.now a.r.now space e in
-    let enough = space-enough a.m.now a.r.now space e in
-    let l = c.lines-l.ensures in
-    (machine, (rules, (omega arith, omega arith)))
+pub label_lines-requires-clause-machine : goal.label_lines-requires-clause-machine
+label_lines-requires-clause-machine c =
+    machine-accepted _ _ _ (asked _ _ c.args.rows.now c.in_ok-check_labelling.ensures.refusal)
+
+pub label_lines-requires-clause-rules : goal.label_lines-requires-clause-rules
+label_lines-requires-clause-rules c =
+    rules-accepted _ _ _ (asked _ _ c.args.rows.now c.in_ok-check_labelling.ensures.refusal)
+
+pub label_lines-requires-clause-room : goal.label_lines-requires-clause-room
+label_lines-requires-clause-room c =
+    rw c.lines-l.ensures (space-enough _ _ _ (asked _ _ c.args.rows.now c.in_ok-check_labelling.ensures.refusal))
 
 pub line_row-last-requires : goal.line_row-last-requires
 line_row-last-requires c =
-    let a = c.args in
-    let e = asked a.m.now a.r.now a.rows.now c.in_ok-check_labelling.ensures.refusal in
-    let space = length a.rows.now in
-    let rules = rules-accepted a.m.now a.r.now space e in
-    let enough = space-enough a.m.now a.r.now space e in
+    let e = asked _ _ c.args.rows.now c.in_ok-check_labelling.ensures.refusal in
+    let rules = rules-accepted _ _ _ e in
+    let enough = space-enough _ _ _ e in
     let some = some-line lent _ rules in
     let l = c.lines-l.ensures in
     (omega arith, omega (arith, c.label_lines.ensures.size))
 
 pub keeps-requires : goal.keeps-requires
 keeps-requires c =
-    let a = c.args in
-    let e = asked a.m.now a.r.now a.rows.now c.in_ok-check_labelling.ensures.refusal in
-    let space = length a.rows.now in
-    (nodes-sized _ (machine-accepted a.m.now a.r.now space e)).1
+    let e = asked _ _ c.args.rows.now c.in_ok-check_labelling.ensures.refusal in
+    (nodes-sized _ (machine-accepted _ _ _ e)).1
 
 pub percent-requires : goal.percent-requires
 percent-requires c =
-    let a = c.args in
-    let e = asked a.m.now a.r.now a.rows.now c.in_ok-check_labelling.ensures.refusal in
-    let space = length a.rows.now in
-    let sized = nodes-sized _ (machine-accepted a.m.now a.r.now space e) in
-    (rw (c.count-count.ensures, tally-number members_most (row_has c.line_row-last.result)) (number-most members_most _), omega (arith, c.nodes.ensures))
+    let e = asked _ _ c.args.rows.now c.in_ok-check_labelling.ensures.refusal in
+    let sized = nodes-sized _ (machine-accepted _ _ _ e) in
+    record { few = rw (c.count-count.ensures, tally-number members_most (row_has c.line_row-last.result)) (number-most members_most _); some = omega (arith, c.nodes.ensures) }
 
 pub returns : goal.returns
 returns c =
-    let a = c.args in
     let lines = c.lines-l in
     let row = c.line_row-last in
     let lo : row.result.low < 2 ^ row_word_bits = omega arith in
     let hi : row.result.high < 2 ^ row_word_bits = omega arith in
-    done a.m.now a.r.now a.rows.now c.in_ok-check_labelling.ensures.refusal _ row.result.low row.result.high _ _ _ _
+    done _ _ c.args.rows.now c.in_ok-check_labelling.ensures.refusal _ row.result.low row.result.high _ _ _ _
     (rw lines.ensures at c.label_lines.ensures) lines.ensures row.ensures.0 row.ensures.1 lo hi c.keeps.ensures
     c.count-count.ensures (rw c.nodes.ensures at c.percent.ensures)

@@ -2,53 +2,33 @@
 use Rattle.std.proofs.Common.{◌≡◌, ◌+◌, ◌-◌, arith}
 use Rattle.sheets.proofs.AcceptedMachine.{nodes-sized}
 use Rattle.truth.proofs.lines.ReadyTables.{ready}
-use Rattle.truth.proofs.labelling.LineTruths.{written_none, written-more}
+use Rattle.truth.proofs.labelling.LineTruths.{written-more}
 use Rattle.truth.proofs.labelling.label_lines.Goals as goal
 
 pub predecessors-back-requires : goal.predecessors-back-requires
 predecessors-back-requires c =
-    omega (arith, c.nodes-n.ensures, nodes-sized c.args.m.now c.requires.0)
-
-pub loop-j-init : goal.loop-j-init
-loop-j-init c = record { next = omega arith; rows = written_none }
+    omega (arith, c.nodes-n.ensures, nodes-sized c.args.m.now c.requires.machine)
 
 pub invariant_of-sheets : goal.invariant_of-sheets
 invariant_of-sheets c = record {
-  ready = ready c.args.m.now c.args.r.now _ _ _ c.nodes-n.ensures c.requires.0 c.requires.1.0 c.successors-next.ensures c.predecessors-back.ensures;
+  ready = ready c.args.m.now c.args.r.now _ _ _ c.nodes-n.ensures c.requires.machine c.requires.rules c.successors-next.ensures c.predecessors-back.ensures;
 }
-
-pub row_of_line-row-requires : goal.row_of_line-row-requires
-row_of_line-row-requires c =
-    record {
-      ready = ready c.args.m.now c.args.r.now _ _ _ c.nodes-n.ensures c.requires.0 c.requires.1.0
-          c.successors-next.ensures c.predecessors-back.ensures;
-      from = omega arith;
-      to = omega (arith, c.requires.1.1.0);
-      above = omega (arith, c.requires.1.1.1);
-    }
 
 pub loop-j-preserved : goal.loop-j-preserved
 loop-j-preserved c =
-    let most = c.requires.1.1 in
     let e : c.loop-j.j ≡ c.loop-j.j - 1 + 1 = omega arith in
     let i : c.loop-j.j + 1 - 1 ≡ c.loop-j.j = omega arith in
     record {
       next = omega arith;
       rows = rw i
-          (written-more c.args.m.now c.args.r.now c.requires.0 c.requires.1.0 _ _ _ _ c.loop-j.invariant.rows e
-          (omega (arith, most.0)) (omega (arith, most.1)) c.row_of_line-row.ensures c.set_line_row.ensures);
+          (written-more c.args.m.now c.args.r.now c.requires.machine c.requires.rules _ _ _ _ c.loop-j.invariant.rows e
+          (omega (arith, c.requires.lines)) (omega (arith, c.requires.room)) c.row_of_line-row.ensures c.set_line_row.ensures);
     }
-
-pub returns : goal.returns
-returns c =
-    let e : c.loop-j.j - 1 ≡ c.args.upto = omega arith in
-    rw e at c.loop-j.invariant.rows
 
 pub returns-2 : goal.returns-2
 returns-2 c =
-    let most = c.requires.1.1 in
     let e : c.loop-j.j ≡ c.loop-j.j - 1 + 1 = omega arith in
     let i : c.loop-j.j ≡ c.args.upto = omega arith in
     rw i at
-    (written-more c.args.m.now c.args.r.now c.requires.0 c.requires.1.0 _ _ _ _ c.loop-j.invariant.rows e
-    (omega (arith, most.0)) (omega (arith, most.1)) c.row_of_line-row.ensures c.set_line_row.ensures)
+    (written-more c.args.m.now c.args.r.now c.requires.machine c.requires.rules _ _ _ _ c.loop-j.invariant.rows e
+    (omega (arith, c.requires.lines)) (omega (arith, c.requires.room)) c.row_of_line-row.ensures c.set_line_row.ensures)

@@ -2,12 +2,9 @@
 use mathlib.Core.Path.{◌≡◌, sym, ◌∙◌}
 use Prim.Native.Nat.{◌+◌}
 use native.Mathlib.Omega.{arith}
-use Rattle.truth.proofs.structure.NodeLoops.{before-none, before-no, before-yes, before-end}
+use Rattle.truth.proofs.structure.NodeLoops.{before-no, before-yes, before-end}
 use Rattle.truth.proofs.structure.nodes_where.Goals as goal
 use Rattle.truth.proofs.structure.nodes_where.Goals.{else-loop-s-test, then-loop-s-test+else-s-n, then-test, else-test}
-
-pub loop-s-init : goal.loop-s-init
-loop-s-init g c = (omega arith, λ p t i. c.empty-out.ensures i ∙ sym (before-none p i))
 
 pub loop-s-preserved : goal.loop-s-preserved
 loop-s-preserved g c = (

@@ -13,7 +13,7 @@ returns c =
     let one = c.leading in
     let two = c.leading-2 in
     split-within p _ c.args.c _ (row_has one.result) (row_has two.result)
-    (leads_into ms.first.words.now (rows_has p.first c.args.d)) (leads_into ms.second.words.now (rows_has p.second c.args.d))
+    (leads_into ms.first.words.now (rows_has p.rows.first c.args.d)) (leads_into ms.second.words.now (rows_has p.rows.second c.args.d))
     (block-leading ms.first.words.now (row_has one.result) (row_has here.result.first) (row_has into.result.first) _ _ one.ensures here.ensures.first into.ensures.first)
     (block-leading ms.second.words.now (row_has two.result) (row_has here.result.second) (row_has into.result.second) _ _ two.ensures here.ensures.second into.ensures.second)
     c.split_block.ensures

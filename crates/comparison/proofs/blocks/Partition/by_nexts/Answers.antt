@@ -2,9 +2,6 @@
 use Rattle.comparison.proofs.SettlingBlocks.{signalled-on, settled-end, turns-fewer}
 use Rattle.comparison.proofs.blocks.Partition.by_nexts.Goals as goal
 
-pub turn-requires : goal.turn-requires
-turn-requires c = record { staged = c.loop-self.invariant.staged; tailed = c.requires.tailed }
-
 pub returns-then-self-before : goal.returns-then-self-before
 returns-then-self-before c = settled-end _ _ c.loop-self.self c.turn.new.self c.turn.ensures c.loop-self.invariant c.if-self-before.true
 

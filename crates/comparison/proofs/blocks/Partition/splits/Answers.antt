@@ -7,11 +7,11 @@ pub returns-then-not-meets : goal.returns-then-not-meets
 returns-then-not-meets c M₁ M₂ =
     let a = c.args in
     let r = c.meets in
-    tells_none M₁ M₂ a.self.now.first a.self.now.second a.c (row_has a.x.first) (row_has a.x.second) r.result (r.ensures M₁ M₂) c.if-not-meets.true
+    tells_none M₁ M₂ a.self.now.rows.first a.self.now.rows.second a.c (row_has a.x.first) (row_has a.x.second) r.result (r.ensures M₁ M₂) c.if-not-meets.true
 
 pub returns : goal.returns
 returns c M₁ M₂ =
     let r = c.meets in
     let a = c.args in
-    tells_both M₁ M₂ a.self.now.first a.self.now.second a.c (row_has a.x.first) (row_has a.x.second) r.result (r.ensures M₁ M₂) c.if-not-meets.false
-    _ _ c.complement.ensures c.complement-2.ensures c.meets-2.result (c.meets-2.ensures M₁ M₂)
+    tells_both M₁ M₂ a.self.now.rows.first a.self.now.rows.second a.c (row_has a.x.first) (row_has a.x.second) r.result (r.ensures M₁ M₂) c.if-not-meets.false
+    _ _ c.map.ensures.first c.map.ensures.second c.meets-2.result (c.meets-2.ensures M₁ M₂)

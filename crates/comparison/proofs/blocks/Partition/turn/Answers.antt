@@ -3,9 +3,8 @@
 use native.Mathlib.Omega.{arith}
 use Prim.Native.Nat.{◌≤◌}
 use Rattle.truth.specs.Passed.{nodes_most}
-use Rattle.truth.specs.inner.Rows.{row_has}
 use Rattle.comparison.proofs.StagedSplits.{blocks-fit, lines_fit}
-use Rattle.comparison.proofs.TurningBlocks.{turning-none, turning-end, turning-on, marks-in, mark-in, turning-room, turning-more}
+use Rattle.comparison.proofs.TurningBlocks.{turning-none, turning-on, mark-in, turning-room, turning-more}
 use Rattle.comparison.proofs.blocks.Partition.turn.Goals as goal
 use Rattle.comparison.proofs.blocks.Partition.turn.Goals.{In-Some}
 
@@ -13,28 +12,12 @@ use Rattle.comparison.proofs.blocks.Partition.turn.Goals.{In-Some}
 mark : (c : In-Some) → (1 ≤ c.in-Some.e) × (c.in-Some.e ≤ c.loop-c.self.count) × (c.in-Some.e ≤ nodes_most)
 mark c =
     let b = c.block.ensures in
-    mark-in _ _ _ _ _ _ _ _ c.loop-c.invariant c.loop-c-test.true c.in-Some.e (c.in-Some.ensures _ _ _ b.first b.second)
-
-pub of-marks-requires : goal.of-marks-requires
-of-marks-requires c = omega (arith, blocks-fit _ _ _ _ c.requires.staged)
+    mark-in _ _ _ _ _ _ _ c.loop-c.invariant c.loop-c-test.true c.in-Some.e (c.in-Some.ensures _ _ _ b.first b.second)
 
 pub loop-c-init : goal.loop-c-init
 loop-c-init c =
-    let m = c.of-marks.ensures in
-    turning-none _ _ _ c.requires.staged _ _ _ m.first m.second m.all
-
-pub block-requires : goal.block-requires
-block-requires c = omega (arith, blocks-fit _ _ _ _ c.loop-c.invariant.staged)
-
-pub splitter-requires : goal.splitter-requires
-splitter-requires c =
-    let at = c.loop-c in
-    let b = c.block in
-    let in_all = marks-in _ _ _ _ _ _ _ _ at.invariant c.loop-c-test.true (row_has b.result.first) (row_has b.result.second) b.ensures.first b.ensures.second in
-    record { first = in_all.0; second = in_all.1; tailed = c.requires.tailed }
-
-pub overflow_add-c : goal.overflow_add-c
-overflow_add-c c = omega (arith, blocks-fit _ _ _ _ c.loop-c.invariant.staged)
+    let m = c.marks-marks.ensures in
+    turning-none _ _ _ c.requires _ _ m.first m.second
 
 pub loop-c-smaller-in-None : goal.loop-c-smaller-in-None
 loop-c-smaller-in-None c = omega (arith, blocks-fit _ _ _ _ c.loop-c.invariant.staged)
@@ -43,7 +26,7 @@ pub loop-c-preserved-in-None : goal.loop-c-preserved-in-None
 loop-c-preserved-in-None c =
     let at = c.loop-c in
     let b = c.block.ensures in
-    turning-on _ _ _ _ _ _ _ _ at.invariant c.loop-c-test.true (c.in-None.ensures _ _ _ b.first b.second)
+    turning-on _ _ _ _ _ _ _ at.invariant c.loop-c-test.true (c.in-None.ensures _ _ _ b.first b.second)
 
 pub overflow_sub-e : goal.overflow_sub-e
 overflow_sub-e c = omega (arith, mark (goal.at.overflow_sub-e c).In-Some)
@@ -62,25 +45,18 @@ by_next-requires c =
     let b = c.block.ensures in
     record {
       block = omega (arith, mark (goal.at.by_next-requires c).In-Some);
-      room = turning-room _ _ _ _ _ _ _ _ c.loop-c.invariant c.loop-c-test.true _ (c.in-Some.ensures _ _ _ b.first b.second) c.push.new.self c.push.ensures.pushed;
-      tailed = c.requires.tailed;
+      room = turning-room _ _ _ _ _ _ _ c.loop-c.invariant c.loop-c-test.true _ (c.in-Some.ensures _ _ _ b.first b.second) c.push.new.self _ c.push.ensures.pushed;
     }
-
-pub add_last-requires : goal.add_last-requires
-add_last-requires c = let more = c.by_next.ensures.count in record { some = omega arith; few = omega (arith, blocks-fit _ _ _ _ c.loop-c.invariant.staged) }
 
 pub loop-c-smaller : goal.loop-c-smaller
 loop-c-smaller c =
     let b = c.block.ensures in
-    let r = turning-room _ _ _ _ _ _ _ _ c.loop-c.invariant c.loop-c-test.true _ (c.in-Some.ensures _ _ _ b.first b.second) c.push.new.self c.push.ensures.pushed in
+    let r = turning-room _ _ _ _ _ _ _ c.loop-c.invariant c.loop-c-test.true _ (c.in-Some.ensures _ _ _ b.first b.second) c.push.new.self c.loop-c.self.few c.push.ensures.pushed in
     omega (arith, r.count, c.by_next.ensures.count)
 
 pub loop-c-preserved : goal.loop-c-preserved
 loop-c-preserved c =
     let b = c.block.ensures in
-    let m = c.add_last.ensures in
-    turning-more _ _ _ _ _ _ _ _ c.loop-c.invariant c.loop-c-test.true _ (c.in-Some.ensures _ _ _ b.first b.second) c.push.new.self c.push.ensures.pushed
-    c.by_next.new.self _ _ (row_has c.add_last.new.self.all) c.by_next.ensures m.first m.second m.all
-
-pub returns : goal.returns
-returns c = turning-end _ _ _ _ _ _ _ _ c.loop-c.invariant c.loop-c-test.false
+    let m = c.mark_block.ensures in
+    turning-more _ _ _ _ _ _ _ c.loop-c.invariant c.loop-c-test.true _ (c.in-Some.ensures _ _ _ b.first b.second) c.push.new.self _ c.push.ensures.pushed
+    c.by_next.new.self _ _ c.by_next.ensures m.first m.second

@@ -1,13 +1,10 @@
--- `either` meets its contract, answer by answer.
+-- `either` meets its contract where one of the two lines is true nowhere.
 use mathlib.Core.Path.{refl, ◌∙◌}
-use mathlib.Core.Logic.{inl, inr}
+use Rattle.comparison.specs.inner.Needed.{second, first}
 use Rattle.comparison.proofs.needed.Merging.either.Goals as goal
 
 pub returns-then-x-nowhere : goal.returns-then-x-nowhere
-returns-then-x-nowhere c = inl (c.if-x-nowhere.true ∙ c.get-nowhere.ensures, refl)
+returns-then-x-nowhere c = second _ c.in-Some.is (c.if-x-nowhere.true ∙ c.in-Some-find.ensures.some) refl
 
 pub returns-then-y-nowhere : goal.returns-then-y-nowhere
-returns-then-y-nowhere c = inr (inl (c.if-y-nowhere.true ∙ c.get-nowhere.ensures, refl))
-
-pub returns : goal.returns
-returns c = inr (inr refl)
+returns-then-y-nowhere c = first _ c.in-Some.is (c.if-y-nowhere.true ∙ c.in-Some-find.ensures.some) refl

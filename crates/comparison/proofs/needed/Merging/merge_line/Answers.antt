@@ -22,7 +22,7 @@ pub returns-in-Or : goal.returns-in-Or
 returns-in-Or c a ls down inside e m =
     let i = c.args.i in
     next-or a ls down (i - 1) i (omega arith) inside (omega arith) _ _ _ _ _ (search rules) (search rules) (search rules) m
-    _ _ _ _ _ _ (e ∙ ap entry_of c.in-Or.is) c.get-x.ensures c.get-y.ensures c.either-found.ensures c.top_after-self.ensures c.put-in-Or.ensures
+    _ _ _ _ _ _ (e ∙ ap entry_of c.in-Or.is) c.get-x.ensures c.get-y.ensures c.either-found.ensures c.top_after-self.ensures.found c.top_after-self.ensures.kept c.put-in-Or.ensures
 
 pub returns-in-Next : goal.returns-in-Next
 returns-in-Next c a ls down inside e m =

@@ -10,12 +10,6 @@ loop-i-init c = record { high = omega arith; written = signals-begun _ c.require
 pub loop-i-preserved : goal.loop-i-preserved
 loop-i-preserved c = record { high = omega arith; written = signals-pushed _ _ _ c.loop-i.invariant.written c.push.ensures.pushed }
 
-pub returns : goal.returns
-returns c =
-    let at = c.loop-i.invariant in
-    record { count = omega (arith, at.written.next); holds = signals-written _ _ _ at.written (omega arith) }
-
-pub returns-2 : goal.returns-2
-returns-2 c =
-    let more = signals-pushed _ _ _ c.loop-i.invariant.written c.push.ensures.pushed in
-    record { count = omega (arith, more.next); holds = signals-written _ _ _ more (omega arith) }
+pub returns-2-clause-holds : goal.returns-2-clause-holds
+returns-2-clause-holds c =
+    signals-written _ _ _ (signals-pushed _ _ _ c.loop-i.invariant.written c.push.ensures.pushed) (omega arith)

@@ -1,6 +1,5 @@
 -- `spread` meets its contract: the row of one member more.
-use mathlib.Core.Path.{◌≡◌, ap, ◌∙◌}
-use native.Mathlib.Omega.{arith}
+use mathlib.Core.Path.{ap, ◌∙◌}
 use mathlib.Core.Bool.{◌||◌}
 use Rattle.sheets.specs.Words.{bit}
 use Rattle.sheets.specs.inner.Positions.{in_row}
@@ -16,7 +15,4 @@ loop-j-preserved c i =
     let set = c.args.set.bits in
     let rows = c.args.self.now.rows in
     joined-next (bit set) (λ j. in_row rows j i) (bit set i) at.j _ _ (at.invariant i)
-    (c.union-out.ensures i ∙ ap (λ b. bit at.out.bits i || b) (c.only_if.ensures i ∙ rw (c.contains.ensures, c.from.ensures i)))
-
-pub returns : goal.returns
-returns c = let e : c.loop-j.j ≡ c.args.self.now.count = omega arith in rw e at c.loop-j.invariant
+    (c.union-out.ensures i ∙ ap (λ b. bit at.out.bits i || b) (c.only_if.ensures i ∙ rw (c.contains.ensures, c.led_from.ensures i)))

@@ -4,4 +4,4 @@ use Rattle.truth.proofs.trimming.TrimSteps.{Passing}
 use Rattle.truth.proofs.product.Product.goes_on.Given as goal
 
 abbrev pub invariant-loop-u : goal.invariant-loop-u
-invariant-loop-u l = Passing l.self.allow.now l.table l.p (row_has l.fn.on) (row_has l.u-iterator.left) (row_has l.out)
+invariant-loop-u l = Passing l.self.moves.now.allow l.table l.p (row_has l.fn.on) (row_has l.u-iterator.left) (row_has l.out)

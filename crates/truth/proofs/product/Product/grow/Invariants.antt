@@ -2,8 +2,8 @@
 use Rattle.truth.specs.inner.Growing.{left, Turns}
 use Rattle.truth.proofs.product.Product.grow.Given as goal
 
-abbrev pub invariant-loop-time : goal.invariant-loop-time
-invariant-loop-time l = Turns l.self.allow.now l.self.back.now l.self.count 1 l.time l.initial.pairs.reached l.initial.pairs.fresh l.initial.times l.pairs.reached l.pairs.fresh l.times
+abbrev pub invariant-loop-pairs : goal.invariant-loop-pairs
+invariant-loop-pairs l = Turns l.self.moves.now.allow l.self.back.now l.self.moves.now.count 1 l.pairs.time l.initial.pairs.reached l.initial.pairs.fresh l.initial.times l.pairs.reached l.pairs.fresh l.times
 
-abbrev pub decreases-loop-time : goal.decreases-loop-time
-decreases-loop-time l = left l.self.count l.pairs.reached l.pairs.fresh
+abbrev pub decreases-loop-pairs : goal.decreases-loop-pairs
+decreases-loop-pairs l = left l.self.moves.now.count l.pairs.reached l.pairs.fresh

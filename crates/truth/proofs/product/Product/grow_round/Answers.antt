@@ -12,14 +12,14 @@ use Rattle.truth.proofs.growth.GrowthRounds.{turns-one, turns_more}
 use Rattle.truth.proofs.product.Product.grow_round.Goals as goal
 use Rattle.truth.proofs.product.Product.grow_round.Goals.{then-not-is_empty, else-not-is_empty}
 
-pub overflow_add-at : goal.overflow_add-at
-overflow_add-at c =
+pub overflow_add-pairs : goal.overflow_add-pairs
+overflow_add-pairs c =
     let l = c.loop-k in
     let row = c.load.ensures in
     let tested : each members_most (λ s. not (rows_has l.pairs.fresh l.k s)) ≡ c.is_empty.result = rw (row.0, row.1) at (sym c.is_empty.ensures) in
     let some = tested ∙ c.if-not-is_empty.true in
-    let turn = turns-one (omega arith) (omega arith) c.grow_from.ensures some in
-    omega (arith, turn.fewer, l.invariant.0.fewer, c.requires)
+    let turn = turns-one (omega arith) (omega arith) c.grow_from.ensures.turn some in
+    omega (arith, turn.fewer, l.invariant.turns.fewer, c.requires, c.grow_from.ensures.time)
 
 pub loop-k-preserved : goal.loop-k-preserved
 loop-k-preserved c =
@@ -29,10 +29,13 @@ loop-k-preserved c =
     elim c.if-not-is_empty.branch [
       | then-not-is_empty w ↦
           let some = tested ∙ w.if-not-is_empty.true in
-          let turn = turns-one (omega arith) (omega arith) w.grow_from.ensures some in
-          rw (w.pairs-is, w.times-is, w.at-is) (turns_more l.invariant.0 turn, λ e. absurd (omega (arith, l.invariant.0.later)))
+          let turn = turns-one (omega arith) (omega arith) w.grow_from.ensures.turn some in
+          rw (w.pairs-is, w.times-is, w.grow_from.ensures.time) (record { turns = turns_more l.invariant.turns turn; done = λ e. absurd (omega (arith, l.invariant.turns.later)) })
       | else-not-is_empty w ↦
           let none = tested ∙ w.if-not-is_empty.false in
-          rw (w.pairs-is, w.times-is, w.at-is)
-          (l.invariant.0, λ e. below_more (NoRow l.pairs.fresh) l.k (l.invariant.1 e) (none_passes (rows_has l.pairs.fresh l.k) (held_in _ _) none))
+          rw (w.pairs-is, w.times-is)
+          (record {
+            turns = l.invariant.turns;
+            done = λ e. below_more (NoRow l.pairs.fresh) l.k (l.invariant.done e) (none_passes (rows_has l.pairs.fresh l.k) (held_in _ _) none);
+          })
     ]

@@ -5,4 +5,7 @@ use Rattle.truth.specs.inner.Growing.{Turns}
 use Rattle.truth.proofs.product.Product.grow_round.Given as goal
 
 abbrev pub invariant-loop-k : goal.invariant-loop-k
-invariant-loop-k l = Turns l.self.allow.now l.self.back.now l.self.count l.time l.at l.initial.pairs.reached l.initial.pairs.fresh l.initial.times l.pairs.reached l.pairs.fresh l.times × (l.at ≡ l.time → NoRows l.k l.pairs.fresh)
+invariant-loop-k l = record {
+  turns : Turns l.self.moves.now.allow l.self.back.now l.self.moves.now.count l.initial.pairs.time l.pairs.time l.initial.pairs.reached l.initial.pairs.fresh l.initial.times l.pairs.reached l.pairs.fresh l.times;
+  done : l.pairs.time ≡ l.initial.pairs.time → NoRows l.k l.pairs.fresh;
+}

@@ -1,13 +1,12 @@
--- `stuck` meets its contract. The invariant: the nodes that were looked at are sorted.
-use mathlib.Core.Path.{◌≡◌}
-use mathlib.Core.Bool.{false}
-use Rattle.truth.proofs.rows.RowWalks.{sorted-no}
+-- `stuck` meets its contract: its test may be called at the nodes of `look`, which are in range.
+use Rattle.std.proofs.Common.{rules}
+use Prim.Native.Nat.{◌≤◌}
+use Rattle.truth.specs.Sizes.{members_most}
+use Rattle.truth.proofs.rows.RowLaws.{held_in}
 use Rattle.truth.proofs.product.Product.stuck.Goals as goal
 
-pub loop-s-preserved-then-not-steps_on : goal.loop-s-preserved-then-not-steps_on
-loop-s-preserved-then-not-steps_on c =
-    let on = c.steps_on in
-    let no : on.result ≡ false = c.if-not-steps_on.true in
-    let taken = c.in-Some.ensures.steps in
-    let first = taken.first in
-    sorted-no _ _ _ _ _ _ c.loop-s.invariant first.is_in taken.less _ c.with-out.ensures first.from first.to (λ o. rw no at (on.ensures.1 o))
+pub filter-requires : goal.filter-requires
+filter-requires c s t =
+    let some : 1 ≤ s = (held_in _ _ s t).0 in
+    let few : s ≤ members_most = (held_in _ _ s t).1 in
+    search rules

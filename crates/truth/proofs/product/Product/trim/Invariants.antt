@@ -6,7 +6,7 @@ use Rattle.truth.specs.inner.Trimmed.{Trimmed}
 use Rattle.truth.proofs.product.Product.trim.Given as goal
 
 abbrev pub invariant-loop : goal.invariant-loop
-invariant-loop l = (b : Bool) × Trimmed l.self.allow.now l.self.next.now l.self.back.now l.self.count l.initial.pairs.kept l.initial.pairs.gone l.pairs.kept l.pairs.gone b
+invariant-loop l = (b : Bool) × Trimmed l.self.moves.now.allow l.self.next.now l.self.back.now l.self.moves.now.count l.initial.pairs.kept l.initial.pairs.gone l.pairs.kept l.pairs.gone b
 
 abbrev pub decreases-loop : goal.decreases-loop
-decreases-loop l = weight l.self.count (rows_has l.pairs.kept) (rows_has l.pairs.gone)
+decreases-loop l = weight l.self.moves.now.count (rows_has l.pairs.kept) (rows_has l.pairs.gone)

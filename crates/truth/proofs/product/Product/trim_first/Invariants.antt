@@ -3,4 +3,4 @@ use Rattle.truth.specs.inner.Trimmed.{Started}
 use Rattle.truth.proofs.product.Product.trim_first.Given as goal
 
 abbrev pub invariant-loop-p : goal.invariant-loop-p
-invariant-loop-p l = Started l.self.allow.now l.self.back.now l.self.count l.p l.initial.pairs.kept l.pairs.kept l.pairs.gone
+invariant-loop-p l = Started l.self.moves.now.allow l.self.back.now l.self.moves.now.count l.p l.initial.pairs.kept l.pairs.kept l.pairs.gone

@@ -16,12 +16,12 @@ returns c =
     let set = c.load.ensures in
     let row = c.load-row.ensures in
     let d = c.difference-lost in
-    let through = Through a.self.now.allow.now a.table.now a.p in
+    let through = Through a.self.now.moves.now.allow a.table.now a.p in
     let onward = rw (set.0, set.1) at on.ensures in
     let lost : (s : ℕ) → row_has d.result s ≡ (rows_has a.pairs.now.kept a.p s && not (row_has on.result s)) = λ s. rw (row.0, row.1) at (d.ensures s) in
     λ first is g.
     started-next a.table.now (row_has on.result) is
     (λ s. (
-      λ t. among_below cell a.self.now.leaves a.p (through s) ((onward s).0 t),
-      λ r. (onward s).1 (below-among cell a.self.now.leaves a.p (through s) c.requires (λ q x. (s, x.0)) r),
+      λ t. among_below cell a.self.now.moves.now.leaves a.p (through s) ((onward s).0 t),
+      λ r. (onward s).1 (below-among cell a.self.now.moves.now.leaves a.p (through s) c.requires (λ q x. (s, x.0)) r),
     )) lost c.take_out.ensures g

@@ -34,7 +34,7 @@ returns c =
     let some : each members_most (λ s. not (rows_has a.pairs.now.gone a.p2 s)) ≡ false =
     rw (from.0, from.1) at (sym c.is_empty.ensures ∙ c.if-is_empty.false) in
     let m = c.trim_into.ensures in
-    let cleared = emptied a.pairs.now.gone _ a.p2 _ _ (omega (arith, a.self.now.few)) c.store.ensures c.empty.ensures in record {
-      trimmed = trimmed-row a.self.now.back.now a.pairs.now.gone a.p2 (row_has pre.result) cleared ahead m.moved a.self.now.into.now a.self.now.enters (rw (on.0, on.1) at m.owing) c.requires some;
+    let cleared = emptied a.pairs.now.gone _ a.p2 _ _ (omega (arith, a.self.now.moves.now.few)) c.store.ensures c.empty.ensures in record {
+      trimmed = trimmed-row a.self.now.back.now a.pairs.now.gone a.p2 (row_has pre.result) cleared ahead m.moved a.self.now.moves.now.into a.self.now.moves.now.enters (rw (on.0, on.1) at m.owing) c.requires some;
       none = λ y. absurd (true≢false y);
     }

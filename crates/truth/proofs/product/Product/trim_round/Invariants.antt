@@ -3,4 +3,4 @@ use Rattle.truth.proofs.trimming.TrimRounds.{Round}
 use Rattle.truth.proofs.product.Product.trim_round.Given as goal
 
 abbrev pub invariant-loop-k : goal.invariant-loop-k
-invariant-loop-k l = Round l.self.allow.now l.self.next.now l.self.back.now l.self.count l.k l.initial.pairs.kept l.initial.pairs.gone l.pairs.kept l.pairs.gone l.changed
+invariant-loop-k l = Round l.self.moves.now.allow l.self.next.now l.self.back.now l.self.moves.now.count l.k l.initial.pairs.kept l.initial.pairs.gone l.pairs.kept l.pairs.gone l.changed

@@ -1,6 +1,5 @@
 -- `valuation_row` meets its contract. The invariant: the row has the nodes at which the first i lines agree with w.
-use mathlib.Core.Path.{◌≡◌, refl, sym, ◌∙◌}
-use native.Mathlib.Omega.{arith}
+use mathlib.Core.Path.{refl, sym, ◌∙◌}
 use Rattle.truth.specs.inner.Rows.{row_has}
 use Rattle.truth.specs.inner.Product.{line_at, argument_at}
 use Rattle.truth.proofs.tables.TableLaws.{loaded}
@@ -13,9 +12,6 @@ loop-i-init c =
     let a = c.args in
     λ s. agrees-none a.w (argument_at a.self.now.rows.now (line_at a.self.now.lines) s) _
 
-pub line_row-row-requires : goal.line_row-row-requires
-line_row-row-requires c = c.args.self.now.refers c.loop-i.i c.loop-i-test.true
-
 pub loop-i-preserved : goal.loop-i-preserved
 loop-i-preserved c s =
     let a = c.args in
@@ -27,8 +23,3 @@ loop-i-preserved c s =
       | then-bit w ↦ rw w.out-is (w.intersection-out.ensures s ∙ rw row (agrees-yes a.w truth (row_has variables.nodes s) at.i _ (at.invariant s) (sym c.bit.ensures ∙ w.if-bit.true)))
       | else-bit w ↦ rw w.out-is (w.difference-out.ensures s ∙ rw row (agrees-no a.w truth (row_has variables.nodes s) at.i _ (at.invariant s) (sym c.bit.ensures ∙ w.if-bit.false)))
     ]
-
-pub returns : goal.returns
-returns c =
-    let e : c.loop-i.i ≡ c.args.self.now.count = omega arith in
-    rw e at c.loop-i.invariant

@@ -1,0 +1,3 @@
+-- Laws of marks of nodes.
+pub mod MarkedRows
+pub mod NotedMarks
