@@ -71,6 +71,13 @@ module _ (p : ℕ → Bool) where
   any-each zero = refl
   any-each (suc n) = any-more (λ x. not (p x)) 1 n (suc n) (omega arith) ∙ ap (λ t. t || not (p (suc n))) (any-each n) ∙ not-and (each n p) (p (suc n))
 
+  any-next : (n : ℕ) → list_any (λ x. not (p (x + 1))) (range_with_len 0 n) ≡ not (each n p)
+  unfolding each
+  any-next zero = refl
+  any-next (suc n) =
+      any-more (λ x. not (p (x + 1))) 0 n n (omega arith) ∙ ap (λ t. t || not (p (n + 1))) (any-next n)
+      ∙ ap (λ k. not (each n p) || not (p k)) (add-one n) ∙ not-and (each n p) (p (suc n))
+
 -- ---- `a..=b` gives the numbers from a to b
 
 -- the next number
@@ -142,6 +149,9 @@ all_between {u} {f = f} {r = r} a b p q same ran k = all_from_yields_List p u f 
 module _ {u : Range ℕ} {F : Type 0} {g : Mut F (ℕ × Unit {0}) Bool} {f : F} {r : Bool} (n : ℕ) (p : ℕ → Bool) where
   pub all_next : ChecksAll (range_steps gap follows) g (record { start = 0; end = n }) f r u → ((x : ℕ) (b : Bool) (q : F) → Called g f (x, tt) b q → (q ≡ f) × (b ≡ p (x + 1))) → r ≡ each n p
   all_next ran k = all_between 0 n (λ x. p (x + 1)) p (λ i. ap p (omega arith)) ran k ∙ ap (λ m. each m p) (omega arith)
+
+  pub any_next : ChecksAny (range_steps gap follows) g (record { start = 0; end = n }) f r u → ((x : ℕ) (b : Bool) (q : F) → Called g f (x, tt) b q → (q ≡ f) × (b ≡ not (p (x + 1)))) → r ≡ not (each n p)
+  any_next ran k = any_from_yields_List (λ x. not (p (x + 1))) u f r ran (YieldsList-from_range 0 n n refl (omega arith)) k ∙ any-next p n
 
   pub any_position : ChecksAny (range_steps gap follows) g (record { start = 0; end = n }) f r u → ((x : ℕ) (b : Bool) (q : F) → Called g f (x, tt) b q → (q ≡ f) × (b ≡ p x)) → r ≡ some_below n p
   any_position ran k = any_from_yields_List p u f r ran (YieldsList-from_range 0 n n refl (omega arith)) k ∙ any_some p n
