@@ -39,7 +39,7 @@ pub held-most : (state : State) → length (held state) ≤ 1
 unfolding held
 held-most Gap = omega arith
 held-most (Number first n) = omega arith
-held-most (Stopped found) = omega arith
+held-most (Stopped kind there) = omega arith
 
 -- the lent words after i bytes
 pub record Filled (lent text : List ℕ) (i : ℕ) (r : Reader) (list : List ℕ) : Type 0 where
@@ -62,7 +62,7 @@ refilled state (Number first n) ws lent list room room' counts moved e =
     let size : length list ≡ length lent = rw e (over-length (ws ++ held state) lent (simp length-append (omega arith))) in
     let place : length list - room' - 1 ≡ length ws = omega arith in
     rw (place, append-nil, e) (stored ws (held state) lent n short (omega arith))
-refilled state (Stopped found) ws lent list room room' counts moved e = rw append-nil e
+refilled state (Stopped kind there) ws lent list room room' counts moved e = rw append-nil e
 
 pub filled_more : (lent text list : List ℕ) (i : ℕ) (r r' : Reader) → i < length text → Filled lent text i r list
     → Steps r (get_or text i 0) r' → Filled lent text (i + 1) r' (sets list (length list - r'.room - 1) (held r'.state))
@@ -82,7 +82,7 @@ all_words : (state : State) (ws vs : List ℕ) (left : ℕ) (at : Place) → wor
 unfolding from reading held
 all_words Gap ws vs left at e = let same = e ∙ with-words ws [] in cc
 all_words (Number first n) ws vs left at e = let same = e ∙ with-words ws (n ∷ []) in cc
-all_words (Stopped found) ws vs left at e = let same = e ∙ with-fault ws found.kind found.at in absurd (let z : ◌≡◌ {A = ℕ} 0 1 = cc in omega arith)
+all_words (Stopped kind there) ws vs left at e = let same = e ∙ with-fault ws kind there in absurd (let z : ◌≡◌ {A = ℕ} 0 1 = cc in omega arith)
 
 pub filled-all : (lent text list : List ℕ) (i : ℕ) (r : Reader) → i ≡ length text → Filled lent text i r list
     → (vs : List ℕ) → reading_of (length lent) text ≡ words vs → list ≡ over vs lent

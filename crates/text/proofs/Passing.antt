@@ -13,7 +13,7 @@ use Rattle.text.specs.Texts.{Read, words, fault, with_word, next, commented, unc
 use Rattle.text.specs.inner.Readers.{from, held, ended, with_words, start_of, Steps}
 use Rattle.text.specs.declared.read.Place.{Place}
 use Rattle.text.specs.declared.read.Kind.{Kind}
-use Rattle.text.specs.declared.read.Fault.{Fault}
+use Rattle.text.specs.declared.read.Kind.{Kind}
 use Rattle.text.specs.declared.reader.State.TheVariants.{Gap, Number, Stopped}
 use Rattle.text.specs.declared.reader.Reader.{Reader}
 
@@ -86,6 +86,6 @@ module _ (room : ℕ) (text : List ℕ) (i : ℕ) (r : Reader) (ws : List ℕ) (
   unfolding answer_of from reading held
   counted-at-number first n e = rw (whole-at-end, e, with-words) (ap Ok (simp length-append (omega (arith, rw e at p.counts))))
 
-  pub faulty-at-end : (found : Fault) → r.state ≡ Stopped found → Err found ≡ answer_of (reading_of room text)
+  pub faulty-at-end : (kind : Kind) (there : Place) → r.state ≡ Stopped kind there → Err (record { kind = kind; at = there }) ≡ answer_of (reading_of room text)
   unfolding answer_of from
-  faulty-at-end found e = rw (whole-at-end, e, with-fault)
+  faulty-at-end kind there e = rw (whole-at-end, e, with-fault)

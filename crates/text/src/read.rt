@@ -61,7 +61,7 @@ fn scan(text: &[u8], room: usize) -> Result<usize, Fault>
     }
     match reader.state {
         State::Gap | State::Number { .. } => Ok(room - reader.room),
-        State::Stopped(fault) => Err(fault),
+        State::Stopped { kind, at } => Err(Fault { kind, at }),
     }
 }
 
@@ -87,6 +87,6 @@ fn put(reader: Reader, words: &mut [u16])
             let at = words.len() - reader.room - 1;
             words[at] = value;
         }
-        State::Gap | State::Stopped(_) => {}
+        State::Gap | State::Stopped { .. } => {}
     }
 }

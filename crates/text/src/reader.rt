@@ -3,7 +3,7 @@ ghost use Rattle.std.specs.Prelude.{◌≡◌, ◌^◌, ◌≤◌};
 ghost use Rattle.text.specs.Texts as Texts;
 ghost use Rattle.text.specs.inner.Readers.{Moves, start_of, stopped_at, Steps};
 
-use crate::read::{Fault, Kind, Place};
+use crate::read::{Kind, Place};
 
 // What a byte is between comments: three kinds, so no Option.
 #[derive(Clone, Copy, Debug, PartialEq, Eq)]
@@ -13,12 +13,13 @@ pub enum Sort {
     Other,
 }
 
-// What stands before a byte: a gap, a number with the place of its first digit, or a fault. Three kinds, so no Result.
+// What stands before a byte: a gap, a number with the place of its first digit, or a fault. Three kinds, so no Result. A fault's two parts
+// stand here by themselves: with a `Fault` in their place each byte took half as many steps again, since its place lay elsewhere than a number's.
 #[derive(Clone, Copy, Debug, PartialEq, Eq)]
 pub enum State {
     Gap,
     Number { from: Place, value: u16 },
-    Stopped(Fault),
+    Stopped { kind: Kind, at: Place },
 }
 
 // A reader before a byte: whether the byte before it belongs to a comment, the byte's place, the words that there is room for from there
@@ -109,7 +110,7 @@ impl Reader {
         match self.state {
             State::Gap => self.in_gap(byte),
             State::Number { from, value } => self.in_number(from, value, byte),
-            State::Stopped(_) => self,
+            State::Stopped { .. } => self,
         }
     }
 
@@ -168,7 +169,7 @@ impl Reader {
         ensures { result ≡ stopped_at self kind at }
     {
         Reader {
-            state: State::Stopped(Fault { kind, at }),
+            state: State::Stopped { kind, at },
             ..self
         }
     }

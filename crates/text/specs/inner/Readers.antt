@@ -11,19 +11,19 @@ use Rattle.text.specs.declared.reader.Reader.{Reader}
 unfoldable pub from : State → List ℕ → ℕ → Place → Read
 from Gap text room at = reading text gap room at
 from (Number first n) text room at = reading text (number first n) room at
-from (Stopped found) text room at = fault found.kind found.at
+from (Stopped kind there) text room at = fault kind there
 
 -- the word that a state holds
 unfoldable pub held : State → List ℕ
 held Gap = []
 held (Number first n) = n ∷ []
-held (Stopped found) = []
+held (Stopped kind there) = []
 
 -- the word that is whole where one state follows another
 unfoldable pub ended : State → State → List ℕ
 ended before Gap = held before
 ended before (Number first n) = []
-ended before (Stopped found) = held before
+ended before (Stopped kind there) = held before
 
 -- what is read with words before it
 unfoldable pub with_words : List ℕ → Read → Read
@@ -42,7 +42,7 @@ start_of room = record { comment = false; at = record { line = 1; column = 1 }; 
 
 -- a reader at a fault
 abbrev pub stopped_at : Reader → Kind → Place → Reader
-stopped_at before kind there = record { comment = before.comment; at = before.at; room = before.room; state = Stopped (record { kind = kind; at = there }) }
+stopped_at before kind there = record { comment = before.comment; at = before.at; room = before.room; state = Stopped kind there }
 
 -- a reader after one byte more: a byte of a comment counts as a space
 pub record Steps (before : Reader) (byte : ℕ) (r : Reader) : Type 0 where

@@ -18,4 +18,4 @@ returns-in-Number c = rw c.in-Number.is
 
 pub returns-in-Gap : goal.returns-in-Gap
 unfolding held
-returns-in-Gap c = ⊎_elim (λ e. rw e) (λ e. rw e.1) c.in-Gap.is
+returns-in-Gap c = ⊎_elim (λ e. rw e) (λ e. rw e.2) c.in-Gap.is

@@ -22,4 +22,4 @@ returns-in-Gap-clause-answer c =
 pub returns-in-Stopped-clause-answer : goal.returns-in-Stopped-clause-answer
 returns-in-Stopped-clause-answer c =
     let at = c.loop-byte in
-    faulty-at-end _ c.args.text.now at.byte-index _ _ (omega arith) at.invariant.1 _ c.in-Stopped.is
+    faulty-at-end _ c.args.text.now at.byte-index _ _ (omega arith) at.invariant.1 _ _ c.in-Stopped.is
