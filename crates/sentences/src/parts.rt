@@ -59,7 +59,7 @@ impl Display for Mark {
 }
 
 // The marks of the lines: a written rule has fewer lines than have a place here.
-#[derive(Drop)]
+#[derive(Clone, Copy)]
 struct Marks {
     of: [Mark; format::LINES],
 }
@@ -97,7 +97,7 @@ pub struct OnAndOff {
 
 // The parts of a line: the signals that are on and those that are off, and the lines up to this one that stay marked as parts, `rest`
 // of them. `room` is how many more lines may be taken apart.
-#[derive(Drop)]
+#[derive(Clone, Copy)]
 pub struct Parts {
     pub signals: OnAndOff,
     pub line: u16,
