@@ -16,6 +16,7 @@ use checker::{machine, rules, worked};
 use std::fs;
 use std::path::{Path, PathBuf};
 use std::process::{Command, Output};
+use std::time::Duration;
 
 const SEED: u64 = 0x7368_6565_7401;
 const CASES: u64 = 3_000;
@@ -31,7 +32,10 @@ fn example(name: &str) -> Vec<u8> {
 }
 
 fn run(arguments: &[&str], input: &[u8]) -> Printed {
-    let output = programs::run("sheet", arguments, input);
+    printed(programs::run("sheet", arguments, input))
+}
+
+fn printed(output: Output) -> Printed {
     let error = String::from_utf8(output.stderr).expect("the errors are in ASCII");
     Printed {
         out: output.stdout,
@@ -129,6 +133,20 @@ fn sizes_at_the_limit() {
             let name = format!("{length} bytes");
             same(&name, &run(&["bytes"], &text), &to_bytes(&text));
         }
+    }
+}
+
+/// Too many bytes for a text are refused at the first one too many, and not at the end of the input: whoever writes them may keep the
+/// pipe open and wait for the answer. No contract says how much the program reads.
+#[test]
+fn too_many_bytes_are_refused_while_the_pipe_is_open() {
+    for length in [SHEETS_BYTES + 1, SHEETS_BYTES + 2, 3 * SHEETS_BYTES] {
+        let name = format!("{length} bytes and an open pipe");
+        let sheet = vec![0u8; length];
+        let output = programs::run_kept_open("sheet", &["text"], &sheet, Duration::from_secs(10))
+            .unwrap_or_else(|| panic!("{name}: the program waits for more"));
+        assert!(output.status.success(), "{name}");
+        same(&name, &printed(output), &to_text(&sheet));
     }
 }
 

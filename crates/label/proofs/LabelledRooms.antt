@@ -1,6 +1,6 @@
 -- The rows of an answer fit the lent space: two words a line.
 use Rattle.std.specs.Prelude.{Result, Ok}
-use mathlib.Core.Path.{◌≡◌, ap, sym, ◌∙◌}
+use mathlib.Core.Path.{◌≡◌, ap}
 use Prim.Native.Nat.{ℕ, ◌*◌, ◌≤◌}
 use native.Mathlib.Omega.{arith}
 use mathlib.Core.List.{List}
@@ -13,7 +13,6 @@ use Rattle.truth.specs.declared.labelling.Labelled.{Labelled}
 use Rattle.truth.proofs.labelling.LabelTable.{space-enough}
 use Rattle.input.specs.declared.refused.Refused.{Refused}
 use Rattle.input.proofs.Cuts.{by-reply}
-use Rattle.input.proofs.AskedCalls.{call-answered}
 use Rattle.label.specs.Program.{Answered}
 use Rattle.label.specs.declared.answer.Answer.{Answer}
 
@@ -25,10 +24,10 @@ room M R before after found h =
     let size = h.leaves.rows.size in
     omega arith
 
-pub rows_fit : (bytes before after : List ℕ) (answer : Result Answer Refused) (a : Answer) → Answered bytes before after answer
-    → answer ≡ Ok a → row_words * a.lines ≤ length after
-rows_fit bytes before after answer a h e =
+pub rows_fit : (bytes before after : List ℕ) (answer : Result Answer Refused) (a : Answer) (found : Labelled) → Answered bytes before after answer
+    → answer ≡ Ok a → a.labelled ≡ Ok found → row_words * a.lines ≤ length after
+rows_fit bytes before after answer a found h e is =
     by-reply h (λ other r. let z : ◌≡◌ {A = ℕ} 0 1 = cc in absurd (omega arith))
     (λ ok s.
-    let is = call-answered s.call (sym s.told ∙ e) in
-    rw (s.answers.lines a is) (room _ _ before after a.labelled (rw is at s.answers.labelled)))
+    let said = rw e at s in
+    rw said.lines (room _ _ before after found (rw is at said.labelled)))

@@ -29,10 +29,13 @@ fn show<W: Write>(out: &mut W, answer: Result<Answer, Refused>, rows: &[u64]) ->
     requires { AnsweredRows rows.now answer }
 {
     match answer {
-        Ok(answer) => {
-            print::rows(out, rows, answer.nodes, answer.lines)?;
-            print::verdict(out, answer.nodes, answer.labelled)
-        }
-        Err(refused) => writeln!(out, "refused: {refused}"),
+        Ok(answer) => match answer.labelled {
+            Ok(labelled) => {
+                print::rows(out, rows, answer.nodes, answer.lines)?;
+                print::verdict(out, answer.nodes, labelled)
+            }
+            Err(refusal) => print::refusal(out, Refused::from(refusal)),
+        },
+        Err(refused) => print::refusal(out, refused),
     }
 }

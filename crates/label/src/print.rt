@@ -2,6 +2,7 @@
 ghost use Rattle.std.specs.Prelude.{◌*◌, ◌≤◌, length};
 ghost use Rattle.truth.specs.Sizes.{row_words};
 
+use input::refused::Refused;
 use std::io;
 use std::io::Write;
 use truth::labelling::Labelled;
@@ -45,4 +46,9 @@ pub fn verdict<W: Write>(out: &mut W, nodes: u16, labelled: Labelled) -> io::Res
         writeln!(out, "the rule is not kept")?;
     }
     writeln!(out, "true at {count} of {nodes} nodes, {percent} percent")
+}
+
+// Why there is nothing to print.
+pub fn refusal<W: Write>(out: &mut W, refused: Refused) -> io::Result<()> {
+    writeln!(out, "refused: {refused}")
 }

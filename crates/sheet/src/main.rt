@@ -42,14 +42,33 @@ struct Streams<'a, W, E> {
 }
 
 impl<W: Write, E: Write> Streams<'_, W, E> {
-    // What is asked of the input. One byte more is read than is taken of a text, and more than is taken of bytes, so that a longer input is
-    // noticed.
+    // What is asked of the input. One byte more is read than is taken of a text, and more than is taken of bytes that are checked, so that a
+    // longer input is noticed. Of bytes that are turned into text just one more is read than is taken: what they come from may stay open
+    // behind them, and may be read further by others.
     fn answer<R: Read>(&mut self, from: &mut R, asked: Asked) -> io::Result<()> {
-        let mut input = [0u8; limits::TEXT_BYTES + 1];
-        let n = full::read_full(from, &mut input)?;
         match asked {
-            Asked::Turn(form) => self.turn(form, &input[..n]),
-            Asked::Check(check) => self.check(check, &input[..n]),
+            Asked::Turn(Form::Text) => {
+                let mut sheet = [0u8; limits::SHEETS_BYTES + 1];
+                self.answer_in(from, asked, &mut sheet)
+            }
+            Asked::Turn(Form::Bytes) | Asked::Check(_) => {
+                let mut input = [0u8; limits::TEXT_BYTES + 1];
+                self.answer_in(from, asked, &mut input)
+            }
+        }
+    }
+
+    // The same, with space for as much of the input as is read.
+    fn answer_in<R: Read>(
+        &mut self,
+        from: &mut R,
+        asked: Asked,
+        space: &mut [u8],
+    ) -> io::Result<()> {
+        let n = full::read_full(from, space)?;
+        match asked {
+            Asked::Turn(form) => self.turn(form, &space[..n]),
+            Asked::Check(check) => self.check(check, &space[..n]),
         }
     }
 
