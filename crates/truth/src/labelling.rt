@@ -11,7 +11,7 @@ ghost use Rattle.truth.specs.LabelAnswers.{LabelAnswer};
 
 use crate::lines::Sheets;
 use crate::rows::Row;
-use crate::sizes::ROW_WORDS;
+use crate::sizes::{ROW_WORDS, TABLE_WORDS};
 use crate::structure;
 use crate::tables::{line_row, set_line_row};
 use sheets::refusal::{CallQuestion, Refusal};
@@ -45,9 +45,11 @@ pub fn label_lines(m: &[u16], r: &[u16], rows: &mut [u64], upto: u16)
     requires room { row_words * upto ≤ length rows.old }
     ensures { Labelling.RowsTo m.now r.now upto rows.old rows.new }
 {
-    let next = structure::successors(m);
+    let mut next = [0u64; TABLE_WORDS];
+    structure::write_successors(m, &mut next);
     let n = machine::nodes(m);
-    let back = structure::predecessors(&next, n);
+    let mut back = [0u64; TABLE_WORDS];
+    structure::write_predecessors(&next, n, &mut back);
     let sheets = Sheets {
         machine: m,
         rules: r,

@@ -259,17 +259,25 @@ pub fn start_row(m: &[u16]) -> Row
     nodes_where(machine::nodes(m), |s| machine::start_flag(m, s) == 1)
 }
 
-// The successors of each node s, at row s - 1.
-pub fn successors(m: &[u16]) -> [u64; TABLE_WORDS]
-    ensures { (s t : ℕ) → 1 ≤ s → s ≤ nodes m.now → s ≤ table_rows → rows_has result (s - 1) t ≡ (within 1 members_most t && (kripke m.now).edge s t) }
+// Writes the successors of each node s at row s - 1 of the lent table. A returned table would take more of the stack: it has a place beside that
+// of the variable that it goes to.
+pub fn write_successors(m: &[u16], out: &mut [u64; TABLE_WORDS])
+    ensures { (s t : ℕ) → 1 ≤ s → s ≤ nodes m.now → s ≤ table_rows → rows_has out.new (s - 1) t ≡ (within 1 members_most t && (kripke m.now).edge s t) }
 {
     let n = machine::nodes(m).min(TABLE_ROWS);
     let alone = Machine::without_tail(m);
-    let mut out = [0u64; TABLE_WORDS];
     for s in 0..n {
         let row = alone.successor_row(s + 1);
-        store(&mut out, s as usize, row);
+        store(out, s as usize, row);
     }
+}
+
+// The same as a table.
+pub fn successors(m: &[u16]) -> [u64; TABLE_WORDS]
+    ensures { (s t : ℕ) → 1 ≤ s → s ≤ nodes m.now → s ≤ table_rows → rows_has result (s - 1) t ≡ (within 1 members_most t && (kripke m.now).edge s t) }
+{
+    let mut out = [0u64; TABLE_WORDS];
+    write_successors(m, &mut out);
     out
 }
 
@@ -283,16 +291,25 @@ fn add_before(set: Row, s: u16, out: &mut [u64; TABLE_WORDS])
     }
 }
 
-// The predecessors of each node t, at row t - 1: each node goes to the rows of its successors.
+// Writes the predecessors of each node t at row t - 1, whatever the lent table had: each node goes to the rows of its successors.
+pub fn write_predecessors(next: &[u64; TABLE_WORDS], n: u16, out: &mut [u64; TABLE_WORDS])
+    requires { n ≤ members_most }
+    ensures { (s t : ℕ) → 1 ≤ t → t ≤ n → rows_has out.new (t - 1) s ≡ (leb s n && (within 1 members_most s && rows_has next.now (s - 1) t)) }
+{
+    *out = [0u64; TABLE_WORDS];
+    for s in 0..n {
+        let row = load(next, s as usize);
+        add_before(row, s + 1, out);
+    }
+}
+
+// The same as a table.
 pub fn predecessors(next: &[u64; TABLE_WORDS], n: u16) -> [u64; TABLE_WORDS]
     requires { n ≤ members_most }
     ensures { (s t : ℕ) → 1 ≤ t → t ≤ n → rows_has result (t - 1) s ≡ (leb s n && (within 1 members_most s && rows_has next.now (s - 1) t)) }
 {
     let mut out = [0u64; TABLE_WORDS];
-    for s in 0..n {
-        let row = load(next, s as usize);
-        add_before(row, s + 1, &mut out);
-    }
+    write_predecessors(next, n, &mut out);
     out
 }
 

@@ -58,8 +58,8 @@ impl Trace<'_> {
         row.members().find(|v| times[pair_place(k, *v)] < time)
     }
 
-    // A pair at position k of the set, with a time before the one that is told, that a step leads to from the last one. Positions are few, so k is
-    // narrowed to a word.
+    // A pair at position k of the set, with a time before the one that is told, that a step leads to from the last one. Whether the automaton may
+    // go there is asked first: at the other positions no row is looked through. Positions are few, so k is narrowed to a word.
     fn step_to(
         &self,
         last: Pair,
@@ -72,16 +72,17 @@ impl Trace<'_> {
     {
         let next = self.next;
         let solved = self.solved;
+        let allowed = load(&solved.allow, POSITIONS * last.position as usize + k);
+        if !allowed.has(last.node) {
+            return None;
+        }
         let to = load(next, last.node as usize - 1);
         let row = to.intersection(load(set, k));
         let v = self.earlier(row, k, before)?;
-        if load(&solved.allow, POSITIONS * last.position as usize + k).has(last.node) {
-            return Some(Pair {
-                position: k as u16,
-                node: v,
-            });
-        }
-        None
+        Some(Pair {
+            position: k as u16,
+            node: v,
+        })
     }
 
     // A pair of the set, with a time before the one that is told, that a step leads to from the last one. There is one.

@@ -5,13 +5,13 @@ use Rattle.truth.proofs.lines.ReadyTables.{ready}
 use Rattle.truth.proofs.labelling.LineTruths.{written-more}
 use Rattle.truth.proofs.labelling.label_lines.Goals as goal
 
-pub predecessors-back-requires : goal.predecessors-back-requires
-predecessors-back-requires c =
+pub write_predecessors-requires : goal.write_predecessors-requires
+write_predecessors-requires c =
     omega (arith, c.nodes-n.ensures, nodes-sized c.args.m.now c.requires.machine)
 
 pub invariant_of-sheets : goal.invariant_of-sheets
 invariant_of-sheets c = record {
-  ready = ready c.args.m.now c.args.r.now _ _ _ c.nodes-n.ensures c.requires.machine c.requires.rules c.successors-next.ensures c.predecessors-back.ensures;
+  ready = ready c.args.m.now c.args.r.now _ _ _ c.nodes-n.ensures c.requires.machine c.requires.rules c.write_successors.ensures c.write_predecessors.ensures;
 }
 
 pub loop-j-preserved : goal.loop-j-preserved

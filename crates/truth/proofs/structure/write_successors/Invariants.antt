@@ -1,4 +1,4 @@
--- `successors` meets its contract. The invariant: the first s rows have the successors of the nodes 1 to s.
+-- `write_successors` meets its contract. The invariant: the first s rows have the successors of the nodes 1 to s.
 use Rattle.truth.specs.Sizes.{members_most, table_words}
 use mathlib.Core.Bool.{Bool, ◌&&◌}
 use mathlib.Core.Path.{◌≡◌}
@@ -7,7 +7,7 @@ use Prim.Native.Nat.{ℕ, ◌+◌}
 use Rattle.sheets.specs.Words.{within}
 use Rattle.sheets.specs.Machine.{kripke}
 use Rattle.truth.proofs.tables.TableLaws.{Filled}
-use Rattle.truth.proofs.structure.successors.Given as goal
+use Rattle.truth.proofs.structure.write_successors.Given as goal
 
 -- whether node i + 1 has an edge to t
 abbrev pub Next : List ℕ → ℕ → ℕ → Bool → Type 0
