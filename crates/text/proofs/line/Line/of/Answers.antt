@@ -1,7 +1,6 @@
--- `of` meets its contract: there is a place for all of the bytes.
-use mathlib.Core.Path.{◌∙◌}
-use lib.Seq.{take_all}
+-- `of` meets its contract: no byte is held, and then these.
+use Rattle.text.proofs.HeldLines.{holds-cut}
 use Rattle.text.proofs.line.Line.of.Goals as goal
 
 pub returns : goal.returns
-returns c = rw c.empty.ensures at c.with_bytes.ensures ∙ take_all _ _ c.requires
+returns c = holds-cut _ _ _ _ c.empty.ensures c.with_bytes.ensures.added
