@@ -71,10 +71,11 @@ array line (byte ∷ more) start count size from counted =
     ∙ array line more start 0 size from (omega arith)
     ∙ same_line _ _ (ap (λ n. put_mid start n line.bytes (take n (byte ∷ more))) none) (omega arith))
 
-pub adds-array : (line : Line) (more part : List ℕ) (start count k : ℕ) → length line.bytes ≡ line_room → start ≡ min line.len line_room
-    → count ≡ min (length more) (line_room - start) → k ≡ count → part ≡ take count more
-    → Adds line more (record { bytes = put_mid start k line.bytes part; len = line.len + count })
-adds-array line more part start count k size from counted gap is = rw (gap, is) (sym (array line more start count size from counted))
+pub adds-array : (line : Line) (more part : List ℕ) (start count k len : ℕ) → length line.bytes ≡ line_room → start ≡ min line.len line_room
+    → count ≡ min (length more) (line_room - start) → k ≡ count → part ≡ take count more → len ≡ line.len + count
+    → Adds line more (record { bytes = put_mid start k line.bytes part; len = len })
+adds-array line more part start count k len size from counted gap is longer =
+    rw (gap, is, longer) (sym (array line more start count size from counted))
 
 -- ---- what a line shows
 
@@ -120,22 +121,22 @@ holds_more line text byte h room =
     (rw (h.bytes, h.len, left, length-append) (stored text byte (line_room - (length text + 1)))))
 
 -- the second line holds the first one's text and what is added, as far as there is a place for it
-pub holds-cut : (before after : Line) (text more : List ℕ) → Holds before text → Adds before more after → Holds after (take line_room (text ++ more))
+pub holds_cut : (before after : Line) (text more : List ℕ) → Holds before text → Adds before more after → Holds after (take line_room (text ++ more))
 unfolding with_bytes
-holds-cut before after text [] h is = rw (is, append-nil, take_all line_room text h.fits) h
-holds-cut before after text (byte ∷ more) h is =
+holds_cut before after text [] h is = rw (is, append-nil, take_all line_room text h.fits) h
+holds_cut before after text (byte ∷ more) h is =
     by_cases (dec_lt (length text) line_room)
     (λ room.
     rw (← append_assoc text (byte ∷ []) more)
-    (holds-cut (with_byte before byte) after (text ++ (byte ∷ [])) more (holds_more before text byte h room) is))
+    (holds_cut (with_byte before byte) after (text ++ (byte ∷ [])) more (holds_more before text byte h room) is))
     (λ full.
     let whole : length text ≡ line_room = omega (arith, h.fits) in
     let same = byte-refused before byte (omega (arith, h.len)) in
     rw (take_at text (byte ∷ more) line_room whole)
-    (rw (take_at text more line_room whole) at (holds-cut before after text more h (is ∙ ap (λ (l : Line). with_bytes l more) same))))
+    (rw (take_at text more line_room whole) at (holds_cut before after text more h (is ∙ ap (λ (l : Line). with_bytes l more) same))))
 
 -- all of it, where there is a place for all
 pub holds-added : (before after : Line) (text more : List ℕ) → Holds before text → Adds before more after → length text + length more ≤ line_room
     → Holds after (text ++ more)
 holds-added before after text more h is room =
-    rw (take_all line_room (text ++ more) (omega (arith, length-append text more))) at (holds-cut before after text more h is)
+    rw (take_all line_room (text ++ more) (omega (arith, length-append text more))) at (holds_cut before after text more h is)

@@ -27,6 +27,7 @@ impl Line {
     }
 
     // The line of these bytes, as far as there is a place for them.
+    #[tactic(auto, using(crate::proofs::HeldLines::holds_cut))]
     pub fn of(bytes: &[u8]) -> Line
         ensures { Holds result (take line_room bytes.now) }
     {
