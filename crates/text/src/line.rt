@@ -7,8 +7,8 @@ use itoa::Buffer;
 // The bytes that a line has room for.
 pub const ROOM: usize = 20;
 
-// A line of `len` bytes, at the head of the array. Any bytes and any length are taken for one: past the room, it is a full line. In those
-// that are made here the places past the bytes are 0. The array is as long as the longest line, since nothing is kept on the heap.
+// A line of `len` bytes, at the head of the array. Any bytes and any length make one, and a length past the room makes a full one; `empty`
+// and `of` leave 0 in the places past the bytes. The array is as long as the longest line, since nothing is kept on the heap.
 #[derive(Clone, Copy)]
 pub struct Line {
     pub bytes: [u8; ROOM],
