@@ -1,9 +1,9 @@
 -- The line `refused Q S`, made of its parts.
-use Rattle.std.specs.Prelude.{ℕ, ◌+◌, ◌≤◌, ◌<◌, List, [], ◌∷◌, ◌++◌, decimal, length}
+use Rattle.std.specs.Prelude.{ℕ, ◌<◌, [], ◌∷◌, decimal}
 use Rattle.std.proofs.Common.{arith, length-append}
 use Rattle.std.proofs.lemmas.Fmt.{length-decimal-le}
 use Rattle.text.specs.declared.line.Line.{Line}
-use Rattle.text.specs.Lines.{line_room, Holds, Adds}
+use Rattle.text.specs.Lines.{Holds, Adds}
 use Rattle.text.proofs.HeldLines.{adds_then, holds-added}
 use Rattle.input.specs.Lines.{refused_line}
 

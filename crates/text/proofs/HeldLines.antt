@@ -5,7 +5,7 @@ use native.Mathlib.Omega.{arith}
 use native.Mathlib.Decide.{dec_lt}
 use mathlib.Core.Logic.{by_cases}
 use mathlib.Core.List.{List, [], ◌∷◌, ◌++◌, append_assoc, append-nil}
-use lib.ListN.{length, replicate, set, take, drop, length-append, length-replicate, length-set, length-take, take-append-drop}
+use lib.ListN.{length, replicate, set, take, drop, length-append, length-set, length-take, take-append-drop}
 use lib.Seq.{take_all, take_at, drop-drop, drop-set-lt, set-append_seam}
 use borrow.Author.Tests.{lt-ltb, le-ltb}
 use borrow.Rule.Slice.PartMut.{put_mid}
@@ -95,8 +95,8 @@ shows-added line (byte ∷ more) size =
     ∙ shows-added line more size ∙ take_at (shown line) more line_room whole ∙ sym (take_at (shown line) (byte ∷ more) line_room whole))
 
 -- it is no more than the array
-pub shows-array : (line : Line) (end : ℕ) → length line.bytes ≡ line_room → end ≡ min line.len line_room → take end line.bytes ≡ shown line
-shows-array line end size is = ap (λ n. take n line.bytes) (is ∙ ap (min line.len) (sym size)) ∙ take_min line.len line.bytes
+pub shows_array : (line : Line) (end : ℕ) → length line.bytes ≡ line_room → end ≡ min line.len line_room → take end line.bytes ≡ shown line
+shows_array line end size is = ap (λ n. take n line.bytes) (is ∙ ap (min line.len) (sym size)) ∙ take_min line.len line.bytes
 
 -- ---- a line that holds a text
 

@@ -68,6 +68,7 @@ impl Line {
     }
 
     // The bytes that it shows.
+    #[tactic(auto, using(crate::proofs::HeldLines::shows_array))]
     pub fn as_slice(&self) -> &[u8]
         ensures value { result.now ≡ shown self.now }
         ensures fits { length result.now ≤ line_room }
