@@ -23,6 +23,7 @@ use Rattle.comparison.specs.declared.compare.Answer.TheVariants.{Equal as says_e
 use Rattle.comparison.proofs.CompareTable.{refuses-nothing}
 use Rattle.comparison.proofs.Decides.{Decides, decides}
 use Rattle.comparison.proofs.MarkedMachines.{case-a, case-b, case-c, case-d}
+use Rattle.text.specs.Lines.{shown}
 use Rattle.text.specs.declared.line.Line.{Line}
 use Rattle.input.specs.Bytes.{bytes_of}
 use Rattle.input.specs.Limits.{nodes_most, rule_space}
@@ -49,7 +50,7 @@ module _ (M₁ M₂ : List ℕ) (ok₁ : machine_refusal M₁ ≡ 0) (ok₂ : ma
 -- ---- the table
 
 pub record Marked : Type 0 where
-  pub a : Equal M1 M2 × Answers M1 M2 says_equal × ((line : Line) → Printed (bytes_of (M1 ++ M2)) line → line ≡ line_bytes (Ok says_equal))
+  pub a : Equal M1 M2 × Answers M1 M2 says_equal × ((line : Line) → Printed (bytes_of (M1 ++ M2)) line → shown line ≡ line_bytes (Ok says_equal))
   pub b : (Equal M1 M3 → ⊥) × Answers M1 M3 says_unequal
   pub c : (Equal M5 M6 → ⊥) × Answers M5 M6 says_unequal
   pub d : Equal M1 M1 × Answers M1 M1 says_equal

@@ -11,6 +11,7 @@ use mathlib.Core.Bool.{true, false}
 use lib.ListN.{length}
 use Rattle.truth.specs.Passed.{M1, M2, Refusal, none as no_refusal, machine_questions, machine_refusal, nodes, signals, word}
 use Rattle.truth.proofs.Passed.{signals-sized, machine-cases}
+use Rattle.text.specs.Lines.{shown}
 use Rattle.text.specs.declared.line.Line.{Line}
 use Rattle.input.specs.Limits.{nodes_most, machines_bytes, rule_words}
 use Rattle.input.specs.Bytes.{readable, words_of, bytes_of}
@@ -95,13 +96,13 @@ module _ (bytes : List ℕ) where
 
   -- for every input one line
   pub record Lines (line : Line) : Type 0 where
-    pub unreadable : readable machines_bytes (length bytes) ≡ false → line ≡ refused_line 0 0
+    pub unreadable : readable machines_bytes (length bytes) ≡ false → shown line ≡ refused_line 0 0
     pub refused : readable machines_bytes (length bytes) ≡ true → 1 ≤ (refusal first second).number
-        → line ≡ refused_line (refusal first second).number (refusal first second).sheet
+        → shown line ≡ refused_line (refusal first second).number (refusal first second).sheet
     pub equal : readable machines_bytes (length bytes) ≡ true → (refusal first second).number ≡ 0 → Comparison.Equal first second
-        → line ≡ line_bytes (Ok Equal)
+        → shown line ≡ line_bytes (Ok Equal)
     pub unequal : readable machines_bytes (length bytes) ≡ true → (refusal first second).number ≡ 0 → (Comparison.Equal first second → ⊥)
-        → line ≡ line_bytes (Ok Unequal)
+        → shown line ≡ line_bytes (Ok Unequal)
 
   -- what `equal` says of the input
   pub record EqualSheets : Type 0 where
@@ -113,8 +114,8 @@ module _ (bytes : List ℕ) where
     pub equal : Comparison.Equal first second
 
   module _ (line : Line) (p : Printed bytes line) where
-    said : line ≡ line_bytes p.answer
-    said = p.held
+    said : shown line ≡ line_bytes p.answer
+    said = p.held.shows
 
     -- end result
     pub which-line : Lines line
@@ -136,7 +137,7 @@ module _ (bytes : List ℕ) where
     says-equal : p.answer ≡ Ok Equal → EqualSheets
     says-equal e = by-reply p.answered (λ other r. let z : ◌≡◌ {A = ℕ} 0 1 = cc in absurd (omega arith)) (λ ok c. equal-sheets ok c e)
 
-    equal-said : EqualSheets → line ≡ line_bytes (Ok Equal)
+    equal-said : EqualSheets → shown line ≡ line_bytes (Ok Equal)
     unfolding refusal
     equal-said s =
         let most = (signals-sized first s.one).1 in
@@ -145,7 +146,7 @@ module _ (bytes : List ℕ) where
         which-line.equal s.taken none s.equal
 
     -- end result
-    pub equal-exactly : (line ≡ line_bytes (Ok Equal)) ↔ EqualSheets
+    pub equal-exactly : (shown line ≡ line_bytes (Ok Equal)) ↔ EqualSheets
     equal-exactly = (λ e. says-equal (is-equal p.answer (sym said ∙ e)), equal-said)
 
 -- ---- two files, each of them an accepted machine sheet, one after the other: the line of the answer to the two; end result
@@ -153,7 +154,7 @@ module _ (bytes : List ℕ) where
 pub files-compared : (first second : List ℕ) → length first % 2 ≡ 0 → length second % 2 ≡ 0
     → machine_refusal (words_of first) ≡ 0 → machine_refusal (words_of second) ≡ 0
     → (line : Line) → Printed (first ++ second) line
-    → (answer : Result Answer Refused) × Compared (words_of first) (words_of second) answer × (line ≡ line_bytes answer)
+    → (answer : Result Answer Refused) × Compared (words_of first) (words_of second) answer × (shown line ≡ line_bytes answer)
 files-compared first second even₁ even₂ ok₁ ok₂ line p =
     let c = p.answered.answered (joined-readable first second even₁ even₂ ok₁ ok₂) in
     let one = joined-first first second even₁ even₂ ok₁ ok₂ in
@@ -162,7 +163,7 @@ files-compared first second even₁ even₂ ok₁ ok₂ line p =
 
 -- ---- the marked case (a): M1, M2 equal; the program prints exactly `equal`
 
-pub case-a : (line : Line) → Printed (bytes_of (M1 ++ M2)) line → line ≡ line_bytes (Ok Equal)
+pub case-a : (line : Line) → Printed (bytes_of (M1 ++ M2)) line → shown line ≡ line_bytes (Ok Equal)
 unfolding bytes_of word
 case-a line p =
     let one = input-cases.case-a-first in

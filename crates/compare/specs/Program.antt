@@ -2,6 +2,7 @@
 -- `refused 0 0` for an odd byte count or more than 20,000 bytes."
 use Rattle.std.specs.Prelude.{◌≡◌, ℕ, ◌≤◌, List, [], ◌∷◌, Result, Ok, Err}
 use Rattle.truth.specs.Passed.{Refusal, first_no}
+use Rattle.text.specs.Lines.{Holds}
 use Rattle.text.specs.declared.line.Line.{Line}
 use Rattle.input.specs.Limits.{machines_bytes, rule_words}
 use Rattle.input.specs.Replies.{Reply}
@@ -42,4 +43,4 @@ Answered bytes answer = Reply machines_bytes bytes (answer ≡ Err Bytes) (λ (M
 pub record Printed (bytes : List ℕ) (line : Line) : Type 0 where
   pub answer : Result Answer Refused
   pub answered : Answered bytes answer
-  pub held : line ≡ line_bytes answer
+  pub held : Holds line (line_bytes answer)

@@ -1,5 +1,5 @@
 // What is answered to the input, and the line that says it.
-ghost use Rattle.std.specs.Prelude.{◌≡◌};
+ghost use Rattle.text.specs.Lines.{Holds};
 ghost use Rattle.compare.specs.Program.{line_bytes, Answered, Printed};
 
 use comparison::compare;
@@ -20,7 +20,7 @@ fn answer_to(input: &[u8]) -> Result<Answer, Refused>
 // The line of an answer.
 #[tactic(auto, unfolding(crate::specs::Program::line_bytes))]
 fn line_of(answer: Result<Answer, Refused>) -> Line
-    ensures { result ≡ line_bytes answer }
+    ensures { Holds result (line_bytes answer) }
 {
     match answer {
         Ok(Answer::Equal) => Line::of(b"equal\n"),

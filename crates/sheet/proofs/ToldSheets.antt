@@ -13,6 +13,7 @@ use Rattle.sheets.specs.Machine.{machine_refusal}
 use Rattle.sheets.specs.Rules.{lent, rule_refusal}
 use Rattle.sheets.specs.CheckAnswers.{Answered}
 use Rattle.sheets.specs.declared.refusal.Refusal as Refusals
+use Rattle.text.specs.Lines.{shown}
 use Rattle.input.specs.Limits.{sheets_bytes}
 use Rattle.input.specs.Bytes.{readable, words_of}
 use Rattle.input.specs.Lines.{refused_line}
@@ -76,32 +77,32 @@ module _ (sort : Sort) (bytes : List ℕ) where
     abbrev checked : (check : Result (Unit {0}) Refused) × (told.answer ≡ by_refusal check) × CheckedBytes sort bytes check
     checked = as-bytes sort bytes told.answer h.answered
 
-    said : told.line ≡ line_bytes (by_refusal checked.0)
-    said = h.held ∙ ap line_bytes checked.1
+    said : shown told.line ≡ line_bytes (by_refusal checked.0)
+    said = h.held.shows ∙ ap line_bytes checked.1
 
     -- end result
-    pub accepted-exactly : (told.line ≡ line_bytes (Ok tt)) ↔ ((readable sheets_bytes (length bytes) ≡ true) × (first.number ≡ 0))
+    pub accepted-exactly : (shown told.line ≡ line_bytes (Ok tt)) ↔ ((readable sheets_bytes (length bytes) ≡ true) × (first.number ≡ 0))
     accepted-exactly = (
       λ e. taken-accepted checked.0 checked.2 (is-accepted checked.0 (sym said ∙ e)),
       λ z. said ∙ ap (λ c. line_bytes (by_refusal c)) (accepted-taken checked.0 checked.2 z.0 z.1),
     )
 
     -- end result
-    pub refused-line : readable sheets_bytes (length bytes) ≡ true → 1 ≤ first.number → told.line ≡ refused_line first.number first.sheet
+    pub refused-line : readable sheets_bytes (length bytes) ≡ true → 1 ≤ first.number → shown told.line ≡ refused_line first.number first.sheet
     refused-line ok some = said ∙ refused-taken checked.0 checked.2 ok some
 
     -- end result
-    pub unreadable-line : readable sheets_bytes (length bytes) ≡ false → told.line ≡ refused_line 0 0
+    pub unreadable-line : readable sheets_bytes (length bytes) ≡ false → shown told.line ≡ refused_line 0 0
     unreadable-line other = said ∙ refused-untaken checked.0 checked.2 other
 
 -- ---- of a machine sheet and of a rule sheet; end results
 
 pub machine-accepted : (bytes : List ℕ) (told : Told·.Told) → Told (record { sort = Machine; form = Bytes }) bytes told
-    → (told.line ≡ line_bytes (Ok tt)) ↔ ((readable sheets_bytes (length bytes) ≡ true) × (machine_refusal (words_of bytes) ≡ 0))
+    → (shown told.line ≡ line_bytes (Ok tt)) ↔ ((readable sheets_bytes (length bytes) ≡ true) × (machine_refusal (words_of bytes) ≡ 0))
 unfolding questions
 machine-accepted bytes told h = accepted-exactly Machine bytes told h
 
 pub rules-accepted : (bytes : List ℕ) (told : Told·.Told) → Told (record { sort = Rules; form = Bytes }) bytes told
-    → (told.line ≡ line_bytes (Ok tt)) ↔ ((readable sheets_bytes (length bytes) ≡ true) × (rule_refusal lent (words_of bytes) ≡ 0))
+    → (shown told.line ≡ line_bytes (Ok tt)) ↔ ((readable sheets_bytes (length bytes) ≡ true) × (rule_refusal lent (words_of bytes) ≡ 0))
 unfolding questions
 rules-accepted bytes told h = accepted-exactly Rules bytes told h

@@ -6,6 +6,7 @@ use Rattle.sheets.specs.Machine.{machine_questions}
 use Rattle.sheets.specs.Rules.{lent, rule_questions}
 use Rattle.sheets.specs.CheckAnswers.{Answered}
 use Rattle.sheets.specs.declared.refusal.Refusal as Refusals
+use Rattle.text.specs.Lines.{Holds}
 use Rattle.text.specs.Texts as Texts
 use Rattle.text.specs.declared.read.Fault as Faults
 use Rattle.input.specs.Limits.{sheets_words, sheets_bytes, text_bytes}
@@ -73,4 +74,4 @@ line_bytes (Err (Says.Text error)) = []
 -- what is told: the answer to the input, and its line
 pub record Told (check : Check) (input : List ℕ) (told : Told·.Told) : Type 0 where
   pub answered : Checked check.sort check.form input told.answer
-  pub held : told.line ≡ line_bytes told.answer
+  pub held : Holds told.line (line_bytes told.answer)

@@ -1,6 +1,7 @@
 // What is answered to a sheet that is checked, and the line that says it.
 ghost use Rattle.std.specs.Prelude.{◌≡◌};
 ghost use Rattle.sheets.specs.CheckAnswers.{Answered};
+ghost use Rattle.text.specs.Lines.{Holds};
 ghost use Rattle.sheet.specs.Program.{questions, CheckedBytes, CheckedText, Checked, line_bytes};
 ghost use Rattle.sheet.specs.Program as Program;
 ghost use Rattle.input.specs.declared.refused.Refused.TheVariants.{Question};
@@ -122,7 +123,7 @@ fn answer_to(check: Check, input: &[u8]) -> Result<(), NotAccepted>
 // The line of an answer.
 #[tactic(auto, unfolding(crate::specs::Program::line_bytes))]
 fn line_of(answer: Result<(), NotAccepted>) -> Line
-    ensures { result ≡ line_bytes answer }
+    ensures { Holds result (line_bytes answer) }
 {
     match answer {
         Ok(()) => Line::of(b"accepted\n"),

@@ -6,4 +6,4 @@ use Rattle.input.proofs.line.refused.Goals as goal
 pub returns : goal.returns
 returns c =
     refused-line _ _ _ _ _ c.args.question c.args.sheet (omega arith) (omega arith) c.of.ensures
-    c.with_number.ensures c.with_byte.ensures c.with_number-2.ensures c.with_byte-2.ensures
+    c.with_number.ensures.added c.with_byte.ensures.added c.with_number-2.ensures.added c.with_byte-2.ensures.added

@@ -1,12 +1,13 @@
 -- `with_bytes` meets its contract.
+use mathlib.Core.Path.{ap, ◌∙◌}
 use native.Mathlib.Omega.{arith}
-use Rattle.text.proofs.HeldLines.{held-longer, bytes-longer}
+use Rattle.text.specs.Lines.{shown}
+use Rattle.text.proofs.HeldLines.{adds-array, shows-added}
 use Rattle.text.proofs.line.Line.with_bytes.Goals as goal
 
-pub invariant_of-result : goal.invariant_of-result
-invariant_of-result c =
-    held-longer c.self.inside c.self.invariant c.args.more.now _ _ _ c.min-count.ensures (omega arith) c.copy_from_slice.ensures.after
+pub returns-clause-added : goal.returns-clause-added
+returns-clause-added c =
+    adds-array c.args.self c.args.more.now _ c.min-start.result c.min-count.result _ _ (omega arith) (omega arith) (omega arith) (omega arith) c.copy_from_slice.ensures.after (omega arith)
 
-pub returns : goal.returns
-returns c =
-    rw (← c.self.view_is) (bytes-longer c.self.inside c.self.invariant c.args.more.now _ _ _ c.min-count.ensures (omega arith) c.copy_from_slice.ensures.after)
+pub returns-clause-shows : goal.returns-clause-shows
+returns-clause-shows c = ap shown (returns-clause-added c) ∙ shows-added c.args.self c.args.more.now (omega arith)

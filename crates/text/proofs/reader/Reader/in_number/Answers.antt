@@ -1,5 +1,6 @@
 -- `in_number` meets its contract: a law for each sort of byte.
-use mathlib.Core.Path.{sym, ◌∙◌}
+use mathlib.Core.Path.{◌≡◌, sym, ◌∙◌}
+use Prim.Native.Nat.{◌+◌, ◌*◌}
 use native.Mathlib.Omega.{arith}
 use Rattle.std.proofs.lemmas.Result.{OkIff-at_ok, OkIff-at_err}
 use Rattle.text.proofs.Moving.{number-blank, number-digit, number-above, number-other}
@@ -11,8 +12,8 @@ returns-in-Blank c = number-blank _ _ _ _ c.requires (sym c.from.ensures ∙ c.i
 pub returns-in-Ok : goal.returns-in-Ok
 returns-in-Ok c =
     let fits = OkIff-at_ok _ _ _ _ c.try_from.ensures c.in-Ok.is in
-    rw (fits.1, c.from-in-Digit.ensures, c.from-in-Digit-2.ensures)
-    (number-digit _ _ _ _ c.requires _ (sym c.from.ensures ∙ c.in-Digit.is) (omega (arith, fits.0, c.from-in-Digit.ensures, c.from-in-Digit-2.ensures)))
+    let is : c.in-Ok.value ≡ 10 * c.args.value + c.in-Digit.digit = omega (arith, fits.0, fits.1, c.from-in-Digit.ensures, c.from-in-Digit-2.ensures) in
+    rw is (number-digit _ _ _ _ c.requires _ (sym c.from.ensures ∙ c.in-Digit.is) (omega (arith, is)))
 
 pub returns-in-Err : goal.returns-in-Err
 returns-in-Err c =
