@@ -1,28 +1,27 @@
 -- An automaton's states by position, as questions 12 to 14 go over them: the list that was read is the chain, and what is asked of the
 -- transitions out of each state.
-use mathlib.Core.Path.{◌≡◌, refl, sym, ◌∙◌}
+use mathlib.Core.Path.{◌≡◌, refl, sym, ◌∙◌, ap}
 use mathlib.Core.Logic.{⊎_elim}
 use Prim.Native.Nat.{ℕ, zero, suc, ◌+◌, ◌-◌, ◌≤◌, ◌<◌}
 use native.Mathlib.Omega.{arith}
 use mathlib.Core.List.{List}
-use mathlib.Core.Bool.{Bool, false, not, ◌&&◌}
+use mathlib.Core.Bool.{Bool, true, false, not, ◌&&◌}
 use borrow.Author.Tests.{le-leb, lt-leb, ne_eqb}
 use lib.ListN.{length, get_or, take}
 use lib.Seq.{length-take-le, get_or-take, ext_get_or}
 use lib.Dec.{T, leb, eqb, leb→le}
-use Rattle.std.specs.List.{list_all}
-use Rattle.std.proofs.lemmas.List.Folds.{list_all-map}
 use Rattle.sheets.specs.Format.{state_words, chained_most, variables_most, states_from}
 use Rattle.sheets.specs.Words.{bit, within, all_of, how_many}
-use Rattle.sheets.specs.Records.{record_word, record_at}
+use Rattle.sheets.specs.Records.{record_word}
 use Rattle.sheets.specs.inner.Walkers.{records}
-use Rattle.sheets.specs.declared.walker.Record.{Record}
-use Rattle.sheets.proofs.EachRecord.{all-elements}
 use Rattle.sheets.specs.Rules.{total, automaton_total, most, fits, lent, automata, states, variables, initial, states_of, transitions_of, mask, transitions_fit, automaton_fits, q9}
-use Rattle.sheets.specs.inner.Gathered.{Listed}
+use Rattle.sheets.specs.inner.Gathered.{Listed, Until}
+use Rattle.sheets.specs.inner.Totality.{StateTaken, SomeNot}
+use Rattle.sheets.specs.declared.automata.Totality.{Totality}
 use Rattle.sheets.specs.declared.along.Numbers.{Numbers}
 use Rattle.sheets.proofs.Tests.{and_left}
 use Rattle.sheets.proofs.Search.{le-or-gt, each_at}
+use Rattle.sheets.proofs.GatheredChains.{all-until}
 use Rattle.sheets.proofs.ListedChains.{past_end}
 
 -- ---- valuations: question 13 numbers them from 1, a mask's bits from 0
@@ -71,15 +70,16 @@ pub fits-listed : (R : List ℕ) (x v : ℕ) (all : Numbers) → Listed (states_
     → all_of (take all.count all.numbers) (λ q. transitions_fit R v (take all.count all.numbers) (transitions_of R q)) ≡ automaton_fits lent R x
 fits-listed R x v all listed few ev = rw (ev, listed-all (states_of R x) all listed few) (sym (fits-if-few R x listed.count few))
 
--- ---- question 13 of the states that a walker hands out
+-- ---- question 13 of the states on a chain
 
-pub total-along : (R : List ℕ) (x v : ℕ) → v ≡ variables R x
-    → list_all (λ (s : Record). total R v (transitions_of R s.number)) (records (record_word R (states_from (automata R)) state_words) state_words (states R) (initial R x)) ≡ automaton_total R x
+pub total-along : (R : List ℕ) (x : ℕ) (a r : Totality) → a.sheet.now ≡ R → a.variables ≡ variables R x → a.all ≡ true
+    → Until StateTaken SomeNot (records (record_word R (states_from (automata R)) state_words) state_words (states R) (initial R x)) a r → r.all ≡ automaton_total R x
 unfolding automaton_total
-total-along R x v e =
-    rw e
-    (list_all-map (λ (s : Record). total R (variables R x) (transitions_of R s.number)) (record_at (record_word R (states_from (automata R)) state_words) state_words) (states_of R x)
-    ∙ all-elements (λ q. total R (variables R x) (transitions_of R q)) (states_of R x))
+total-along R x a r sheet few fresh until =
+    let test : ℕ → Bool = λ q. total R (variables R x) (transitions_of R q) in
+    all-until StateTaken SomeNot (record_word R (states_from (automata R)) state_words) state_words (λ b. b.all) (λ b. (b.sheet.now ≡ R) × (b.variables ≡ variables R x)) test
+    (λ b d. d) (λ b c q took h. ((took.sheet ∙ h.0, took.variables ∙ h.1), rw (h.0, h.1) at took.all)) (states R) (initial R x) a r until (sheet, few)
+    ∙ ap (λ z. z && all_of (states_of R x) test) fresh
 
 -- the variables that question 9 has bounded
 pub few-variables : (R : List ℕ) (x : ℕ) → T (q9 lent R) → 1 ≤ x → x ≤ automata R → variables R x ≤ variables_most

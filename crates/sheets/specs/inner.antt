@@ -4,4 +4,5 @@ pub mod Gathered
 pub mod Positions
 pub mod Lines
 pub mod Transitions
+pub mod Totality
 pub mod Tabled
