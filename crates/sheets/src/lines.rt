@@ -84,7 +84,7 @@ impl<'a> LineRecord<'a> {
         requires few { n ≤ variables_most }
         ensures { result ≡ Rules.refers_above Rules.lent self.now.sheet.now self.now.number c n }
     {
-        (c + 1..=c + n).all(|k| self.is_above(self.word(k)))
+        (c..c + n).all(|k| self.is_above(self.word(k + 1)))
     }
 
     // Line k stands above this one.
