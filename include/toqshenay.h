@@ -5,7 +5,7 @@
  * A pointer must be valid for its length; NULL is allowed with length 0. Arrays that are written must not overlap others, and the places
  * for numbers (sheet, kept, count, percent, length, back, unequal) must be valid and distinct, from each other and from the arrays.
  * Calls keep no state: they are reentrant, and threads may call at once with places of their own. No call uses
- * the heap. Stack: the sheet checks and labelling 32 KiB, a path 112 KiB, comparison 80 KiB (docs/BENCHMARKS.md). */
+ * the heap. Stack: the sheet checks and labelling 17 KiB, a path 112 KiB, comparison 80 KiB (docs/BENCHMARKS.md). */
 #ifndef TOQSHENAY_H
 #define TOQSHENAY_H
 
